@@ -1,0 +1,3 @@
+pub mod Mem
+pub mod Loops
+pub mod Tables

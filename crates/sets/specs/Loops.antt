@@ -1,0 +1,174 @@
+-- The loops of the definitions: the first that passes, some, each, how many, sums, lists joined, and what is done for each member of a set. Assumes nothing.
+use Prim.Native.Nat.{ℕ, zero, suc, _+_, _^_, _≤_, _<_}
+use mathlib.Core.Path.{_≡_, refl, sym, ap, ap₂, _∙_}
+use mathlib.Core.Bool.{Bool, true, false, not, _&&_, _||_, cond, true≢false, false≢true}
+use mathlib.Core.List.{List, [], _∷_, _++_}
+use mathlib.Core.Logic.{_⊎_, inl, inr, ⊎-elim, _≢_}
+use native.Mathlib.Omega.{arith}
+use native.Mathlib.Decide.{ℕ-discrete}
+use lib.ListN.{length, getD, length-append, List·getD-append, List·getD-eq-default}
+use lib.Pow.{pow-pos}
+use lib.Seq.{getD-at}
+use Rattle.rules.specs.Sets.{mem, bit, least, any, all, count, sum, each, words, members, forEach}
+use Rattle.sets.specs.Mem.{and-both, ext, mem-empty}
+
+-- a test goes one of two ways, and each way knows which
+pub by-bool {ℓ} : {P : Type ℓ} (b : Bool) → (b ≡ true → P) → (b ≡ false → P) → P
+by-bool true p q = p refl
+by-bool false p q = q refl
+
+-- ---- the first that passes a test
+
+pub least-le : (w : ℕ) (f : ℕ → Bool) → least w f ≤ w
+unfolding least
+least-le zero f = omega arith
+least-le (suc w) f =
+    by-bool (f 0) (λ e. rw e (omega arith)) (λ e. rw e (omega (arith, least-le w (λ k. f (suc k)))))
+
+-- whatever passes bounds it, and it passes itself
+pub least-hit : (w : ℕ) (f : ℕ → Bool) (k : ℕ) → k < w → f k ≡ true → (least w f ≤ k) × (f (least w f) ≡ true)
+unfolding least
+least-hit zero f k h t = absurd (omega arith)
+least-hit (suc w) f zero h t = rw t (omega arith, t)
+least-hit (suc w) f (suc k) h t =
+    let ih : (least w (λ j. f (suc j)) ≤ k) × (f (suc (least w (λ j. f (suc j)))) ≡ true) = least-hit w (λ j. f (suc j)) k (omega arith) t in
+    by-bool (f 0) (λ e. rw e (omega arith, e)) (λ e. rw e (omega (arith, ih .0), ih .1))
+
+-- it passes, wherever it is below w
+pub least-ok : (w : ℕ) (f : ℕ → Bool) → least w f < w → f (least w f) ≡ true
+unfolding least
+least-ok zero f = λ h. absurd (omega arith)
+least-ok (suc w) f = by-bool (f 0) (λ e. rw e (λ h. e)) (λ e. rw e (λ h. least-ok w (λ j. f (suc j)) (omega arith)))
+
+-- what stands below it does not pass
+pub least-min : (w : ℕ) (f : ℕ → Bool) (k : ℕ) → k < least w f → f k ≡ false
+least-min w f k h =
+    by-bool (f k) (λ e. absurd (omega (arith, least-hit w f k (omega (arith, least-le w f)) e .0))) (λ e. e)
+
+-- ---- some passes
+
+pub any-in : (w : ℕ) (f : ℕ → Bool) (k : ℕ) → k < w → f k ≡ true → any w f ≡ true
+unfolding any
+any-in zero f k h t = absurd (omega arith)
+any-in (suc w) f zero h t = rw t
+any-in (suc w) f (suc k) h t = by-bool (f 0) (λ e. rw e) (λ e. rw e (any-in w (λ j. f (suc j)) k (omega arith) t))
+
+pub any-out : (w : ℕ) (f : ℕ → Bool) → any w f ≡ true → (k : ℕ) × (k < w) × (f k ≡ true)
+unfolding any
+any-out zero f h = absurd (false≢true h)
+any-out (suc w) f h =
+    by-bool (f 0) (λ e. (0, omega arith, e))
+    (λ e. let (k, l, t) = any-out w (λ j. f (suc j)) (rw e at h) in (suc k, omega arith, t))
+
+-- a set that is not empty has a member
+pub some-member : (w s : ℕ) → s < 2 ^ w → s ≢ 0 → (k : ℕ) × (k < w) × (mem k s ≡ true)
+some-member w s h z =
+    by-bool (any w (λ k. mem k s)) (λ e. any-out w (λ k. mem k s) e)
+    (λ e. absurd (z (ext w s 0 h (pow-pos w)
+    (λ k l. by-bool (mem k s) (λ m. absurd (true≢false (sym (any-in w (λ k. mem k s) k l m) ∙ e))) (λ m. m ∙ sym (mem-empty k))))))
+
+-- ---- each passes
+
+pub all-out : (n : ℕ) (f : ℕ → Bool) → all n f ≡ true → (k : ℕ) → k < n → f k ≡ true
+unfolding all
+all-out zero f h k l = absurd (omega arith)
+all-out (suc n) f h zero l = and-both (f 0) (all n (λ k. f (suc k))) h .0
+all-out (suc n) f h (suc k) l = all-out n (λ k. f (suc k)) (and-both (f 0) (all n (λ k. f (suc k))) h .1) k (omega arith)
+
+pub all-in : (n : ℕ) (f : ℕ → Bool) → ((k : ℕ) → k < n → f k ≡ true) → all n f ≡ true
+unfolding all
+all-in zero f h = refl
+all-in (suc n) f h = rw (h 0 (omega arith)) (all-in n (λ k. f (suc k)) (λ k l. h (suc k) (omega arith)))
+
+-- where not each passes, some fails
+pub all-not : (n : ℕ) (f : ℕ → Bool) → all n f ≡ false → (k : ℕ) × (k < n) × (f k ≡ false)
+unfolding all
+all-not zero f h = absurd (true≢false h)
+all-not (suc n) f h =
+    by-bool (f 0)
+    (λ e. let (k, l, z) = all-not n (λ k. f (suc k)) (rw e at h) in (suc k, omega arith, z))
+    (λ e. (0, omega arith, e))
+
+-- ---- how many pass
+
+bit-le : (b : Bool) → bit b ≤ 1
+bit-le true = omega arith
+bit-le false = omega arith
+
+bit-mono : (a b : Bool) → (a ≡ true → b ≡ true) → bit a ≤ bit b
+bit-mono true b h = rw (h refl) (omega arith)
+bit-mono false b h = omega arith
+
+pub count-le : (w : ℕ) (f : ℕ → Bool) → count w f ≤ w
+unfolding count
+count-le zero f = omega arith
+count-le (suc w) f = omega (arith, count-le w (λ k. f (suc k)), bit-le (f 0))
+
+pub count-mono : (w : ℕ) (f g : ℕ → Bool) → ((k : ℕ) → f k ≡ true → g k ≡ true) → count w f ≤ count w g
+unfolding count
+count-mono zero f g h = omega arith
+count-mono (suc w) f g h =
+    omega (arith, count-mono w (λ k. f (suc k)) (λ k. g (suc k)) (λ k. h (suc k)), bit-mono (f 0) (g 0) (h 0))
+
+pub count-more : (w : ℕ) (f g : ℕ → Bool) → ((k : ℕ) → f k ≡ true → g k ≡ true)
+    → (k : ℕ) → k < w → f k ≡ false → g k ≡ true → count w f < count w g
+unfolding count
+count-more zero f g h k l p q = absurd (omega arith)
+count-more (suc w) f g h zero l p q =
+    rw (p, q) (omega (arith, count-mono w (λ k. f (suc k)) (λ k. g (suc k)) (λ k. h (suc k))))
+count-more (suc w) f g h (suc k) l p q =
+    omega (arith, count-more w (λ j. f (suc j)) (λ j. g (suc j)) (λ j. h (suc j)) k (omega arith) p q, bit-mono (f 0) (g 0) (h 0))
+
+pub count-same : (n : ℕ) (f g : ℕ → Bool) → ((k : ℕ) → k < n → f k ≡ g k) → count n f ≡ count n g
+unfolding count
+count-same zero f g h = refl
+count-same (suc n) f g h = ap₂ _+_ (ap bit (h 0 (omega arith))) (count-same n (λ k. f (suc k)) (λ k. g (suc k)) (λ k l. h (suc k) (omega arith)))
+
+-- ---- sums
+
+pub sum-same : (n : ℕ) (f g : ℕ → ℕ) → ((k : ℕ) → k < n → f k ≡ g k) → sum n f ≡ sum n g
+unfolding sum
+sum-same zero f g h = refl
+sum-same (suc n) f g h = ap₂ _+_ (sum-same n f g (λ k l. h k (omega arith))) (h n (omega arith))
+
+pub sum-none : (n : ℕ) → sum n (λ k. 0) ≡ 0
+unfolding sum
+sum-none zero = refl
+sum-none (suc n) = omega (arith, sum-none n)
+
+-- ---- lists joined
+
+pub each-same : {A : Type 0} (n : ℕ) (f g : ℕ → List A) → ((k : ℕ) → k < n → f k ≡ g k) → each n f ≡ each n g
+unfolding each
+each-same zero f g h = refl
+each-same (suc n) f g h = ap₂ _++_ (each-same n f g (λ k l. h k (omega arith))) (h n (omega arith))
+
+pub length-words : (n : ℕ) (f : ℕ → ℕ) → length (words n f) ≡ n
+unfolding words each
+length-words zero f = refl
+length-words (suc n) f = length-append (each n (λ k. f k ∷ [])) (f n ∷ []) ∙ omega (arith, length-words n f)
+
+pub getD-words : (n : ℕ) (f : ℕ → ℕ) (k : ℕ) → k < n → getD (words n f) k 0 ≡ f k
+unfolding words each
+getD-words zero f k h = absurd (omega arith)
+getD-words (suc n) f k h =
+    elim (ℕ-discrete k n) [
+      | yes e ↦ rw e (getD-at (words n f) (f n) [] 0 n (length-words n f))
+      | no e ↦ List·getD-append (words n f) (f n ∷ []) 0 k (omega (arith, length-words n f)) ∙ getD-words n f k (omega arith)
+    ]
+
+pub words-past : (n : ℕ) (f : ℕ → ℕ) (k : ℕ) → n ≤ k → getD (words n f) k 0 ≡ 0
+words-past n f k h = List·getD-eq-default (words n f) 0 (omega (arith, length-words n f))
+
+-- ---- for each member of a set, ascending
+
+-- what holds at the start and is kept at each member holds at the end
+pub forEach-keeps : {A : Type 0} (s : ℕ) (f : ℕ → A → A) (P : ℕ → A → Type 0) (n : ℕ) (a : A) → P 0 a
+    → ((k : ℕ) (x : A) → k < n → mem k s ≡ true → P k x → P (suc k) (f k x))
+    → ((k : ℕ) (x : A) → k < n → mem k s ≡ false → P k x → P (suc k) x)
+    → P n (forEach s f n a)
+unfolding forEach
+forEach-keeps s f P zero a z h g = z
+forEach-keeps s f P (suc n) a z h g =
+    let ih : P n (forEach s f n a) = forEach-keeps s f P n a z (λ k x l. h k x (omega arith)) (λ k x l. g k x (omega arith)) in
+    by-bool (mem n s) (λ e. rw e (h n _ (omega arith) e ih)) (λ e. rw e (g n _ (omega arith) e ih))
