@@ -8,8 +8,9 @@ use mathlib.Core.Logic.{_⊎_, inl, inr, ⊎-elim, _≢_, _↔_}
 use native.Mathlib.Omega.{arith}
 use borrow.Author.Tests.{ltb-true, ltb-false, leb-true, leb-false, eqb-true, eqb-false}
 use lib.Dec.{eqb, ltb, leb}
+use Rattle.rules.specs.Sheet.{above}
 use Rattle.rules.specs.Outcome.{Outcome, refused, accepted, refuse, andThen}
-use Rattle.sheet_laws.specs.Conditions.{Line, line, First, None}
+use Rattle.sheet_laws.specs.Conditions.{Line, line, First, None, Above}
 
 -- ---- tests
 
@@ -17,6 +18,14 @@ use Rattle.sheet_laws.specs.Conditions.{Line, line, First, None}
 pub record Tests (b : Bool) (C : Type 0) : Type 0 where
   pub holds : b ≡ true → C
   pub fails : b ≡ false → C → ⊥
+
+pub test-true : {C : Type 0} (b : Bool) → Tests b C → C → b ≡ true
+test-true true t c = refl
+test-true false t c = absurd (t .fails refl c)
+
+pub test-false : {C : Type 0} (b : Bool) → Tests b C → (C → ⊥) → b ≡ false
+test-false true t c = absurd (c (t .holds refl))
+test-false false t c = refl
 
 pub ltb-tests : (a b : ℕ) → Tests (ltb a b) (a < b)
 ltb-tests a b = record { holds = ltb-true a b; fails = λ e h. omega (arith, ltb-false a b e) }
@@ -38,6 +47,16 @@ or-tests false d t u = record { holds = λ e. inr (u .holds e); fails = λ e. �
 pub and-tests : {C D : Type 0} (b d : Bool) → Tests b C → Tests d D → Tests (b && d) (C × D)
 and-tests true d t u = record { holds = λ e. (t .holds refl, u .holds e); fails = λ e h. u .fails e (h .1) }
 and-tests false d t u = record { holds = λ e. absurd (false≢true e); fails = λ e h. t .fails refl (h .0) }
+
+-- ---- the tests of 7 and 8
+
+-- "first not lower than second"
+pub lower-tests : (c d : ℕ) → Tests (leb d c) (c < d → ⊥)
+lower-tests c d = record { holds = λ e h. omega (arith, leb-true d c e); fails = λ e h. h (leb-false d c e) }
+
+pub above-tests : (a b c d : ℕ) → Tests (above a b c d) (Above a b c d)
+unfolding above
+above-tests a b c d = or-tests (ltb a c) (eqb a c && ltb b d) (ltb-tests a c) (and-tests (eqb a c) (ltb b d) (eqb-tests a c) (ltb-tests b d))
 
 -- ---- the answer's number is that of the first line that applies, and it is accepted where none does
 

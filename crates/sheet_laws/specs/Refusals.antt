@@ -12,10 +12,11 @@ use lib.Seq.{drop-cons}
 use lib.Dec.{eqb, ltb, leb}
 use Rattle.rules.specs.Sets.{mem, word}
 use Rattle.rules.specs.Outcome.{Outcome, refused, accepted, refuse, andThen}
-use Rattle.rules.specs.Sheet.{Sheet, readSheet, pairs, pairBytes, above, link, mostLinks}
+use Rattle.rules.specs.Sheet.{Sheet, readSheet, pairs, pairBytes, above, link, mostLinks, linkCount, sheetBytes, writeSheet}
 use Rattle.rules.specs.Calls.{reading}
-use Rattle.sheet_laws.specs.Conditions.{Line, line, First, None, B, P, N, version, first, second, Above, Cond1, Cond2, Cond3, Cond4, Cond5, Cond6, Cond7, Cond8, pairLines, sheetLines, Cond12, readLines}
-use Rattle.sheet_laws.specs.Answers.{Tests, ltb-tests, leb-tests, eqb-tests, not-tests, or-tests, and-tests, Answers, accepted-answers, refuse-answers, then-answers, form-answers}
+use Rattle.sheet_laws.specs.Conditions.{Line, line, First, None, B, P, N, version, first, second, Above, Cond1, Cond2, Cond3, Cond4, Cond5, Cond6, Cond7, Cond8, pairLines, sheetLines, readLines, writeLines}
+use Rattle.sheet_laws.specs.Proper.{Words, proper-tests}
+use Rattle.sheet_laws.specs.Answers.{Tests, ltb-tests, leb-tests, eqb-tests, not-tests, or-tests, lower-tests, above-tests, Answers, accepted-answers, refuse-answers, then-answers, form-answers}
 
 -- ---- the pairs
 
@@ -27,10 +28,6 @@ two-more s k m h =
     let g : k + 2 ≡ suc (suc k) = omega arith in
     rw (e, f, g, drop-cons s k 0 (omega arith), drop-cons s (suc k) 0 (omega arith))
 
-above-tests : (a b c d : ℕ) → Tests (above a b c d) (Above a b c d)
-unfolding above
-above-tests a b c d = or-tests (ltb a c) (eqb a c && ltb b d) (ltb-tests a c) (and-tests (eqb a c) (ltb b d) (eqb-tests a c) (ltb-tests b d))
-
 -- the pair before pair i; (0, 0) before the first
 abbrev firstBefore : List ℕ → ℕ → ℕ
 firstBefore s zero = 0
@@ -39,9 +36,6 @@ firstBefore s (suc i) = first s i
 abbrev secondBefore : List ℕ → ℕ → ℕ
 secondBefore s zero = 0
 secondBefore s (suc i) = second s i
-
-lower-tests : (c d : ℕ) → Tests (leb d c) (c < d → ⊥)
-lower-tests c d = record { holds = λ e h. omega (arith, leb-true d c e); fails = λ e h. h (leb-false d c e) }
 
 above-zero : (c d : ℕ) → c < d → Above 0 0 c d
 above-zero zero d h = inr (refl, h)
@@ -104,3 +98,13 @@ unfolding reading
 reading-answers w s table =
     then-answers (readSheet w s) _ _ _ (readSheet-answers s w) (λ r e.
     refuse-answers _ 12 0 _ _ (not-tests _ (eqb-tests (length table) w)) (λ c12. accepted-answers r))
+
+-- ---- writing a table of sets of w boxes
+
+pub writeSheet-answers : (w n : ℕ) (t : List ℕ) (size : ℕ) → Words w t → Answers (writeSheet w n t size) (writeLines w n t size)
+unfolding writeSheet
+writeSheet-answers w n t size s =
+    refuse-answers _ 3 0 _ _ (or-tests _ _ (eqb-tests n 0) (ltb-tests w n)) (λ c3.
+    refuse-answers _ 14 0 _ _ (proper-tests w n t s) (λ c14.
+    refuse-answers _ 15 0 _ _ (ltb-tests size (4 + 2 * linkCount w t)) (λ c15.
+    accepted-answers (sheetBytes w n t))))
