@@ -6,3 +6,7 @@ pub mod Rising
 pub mod Pairs
 pub mod Links
 pub mod Counting
+pub mod LinkPairs
+pub mod Back
+pub mod Accepted
+pub mod RoundTrip
