@@ -43,7 +43,7 @@ pub record Accepted (w : ℕ) (s : List ℕ) (r : Sheet) : Type 0 where
   pub number : length list ≡ P s
   pub answer : r ≡ record { boxes = N s; links = P s; table = made w list }
 
-accepted-same : {A : Type 0} {a b : A} → accepted a ≡ accepted b → a ≡ b
+pub accepted-same : {A : Type 0} {a b : A} → accepted a ≡ accepted b → a ≡ b
 accepted-same e = cc
 
 -- the tests passed, and the pairs read

@@ -1,6 +1,6 @@
 -- An answer made of tests one after another is refused by the first line that applies, and accepted where none does: one law for a test put in front,
 -- one for a second answer put behind. Assumes nothing.
-use Prim.Native.Nat.{ℕ, _≤_, _<_}
+use Prim.Native.Nat.{ℕ, zero, suc, _≤_, _<_}
 use mathlib.Core.Path.{_≡_, refl, sym, ap, _∙_}
 use mathlib.Core.Bool.{Bool, true, false, not, _&&_, _||_, true≢false, false≢true}
 use mathlib.Core.List.{List, [], _∷_, _++_}
@@ -57,6 +57,10 @@ lower-tests c d = record { holds = λ e h. omega (arith, leb-true d c e); fails 
 pub above-tests : (a b c d : ℕ) → Tests (above a b c d) (Above a b c d)
 unfolding above
 above-tests a b c d = or-tests (ltb a c) (eqb a c && ltb b d) (ltb-tests a c) (and-tests (eqb a c) (ltb b d) (eqb-tests a c) (ltb-tests b d))
+
+pub above-zero : (c d : ℕ) → c < d → Above 0 0 c d
+above-zero zero d h = inr (refl, h)
+above-zero (suc c) d h = inl (omega arith)
 
 -- ---- the answer's number is that of the first line that applies, and it is accepted where none does
 

@@ -16,7 +16,7 @@ use Rattle.rules.specs.Sheet.{Sheet, readSheet, pairs, pairBytes, above, link, 
 use Rattle.rules.specs.Calls.{reading}
 use Rattle.sheet_laws.specs.Conditions.{Line, line, First, None, B, P, N, version, first, second, Above, Cond1, Cond2, Cond3, Cond4, Cond5, Cond6, Cond7, Cond8, pairLines, sheetLines, readLines, writeLines}
 use Rattle.sheet_laws.specs.Proper.{Words, proper-tests}
-use Rattle.sheet_laws.specs.Answers.{Tests, ltb-tests, leb-tests, eqb-tests, not-tests, or-tests, lower-tests, above-tests, Answers, accepted-answers, refuse-answers, then-answers, form-answers}
+use Rattle.sheet_laws.specs.Answers.{Tests, ltb-tests, leb-tests, eqb-tests, not-tests, or-tests, lower-tests, above-tests, above-zero, Answers, accepted-answers, refuse-answers, then-answers, form-answers}
 
 -- ---- the pairs
 
@@ -36,10 +36,6 @@ firstBefore s (suc i) = first s i
 abbrev secondBefore : List ℕ → ℕ → ℕ
 secondBefore s zero = 0
 secondBefore s (suc i) = second s i
-
-above-zero : (c d : ℕ) → c < d → Above 0 0 c d
-above-zero zero d h = inr (refl, h)
-above-zero (suc c) d h = inl (omega arith)
 
 -- where 7 does not apply, every pair is above (0, 0)
 rising-tests : (s : List ℕ) (i : ℕ) → (Cond7 s i → ⊥) → Tests (not (above (firstBefore s i) (secondBefore s i) (first s i) (second s i))) (Cond8 s i)
