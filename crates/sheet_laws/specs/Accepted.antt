@@ -1,24 +1,23 @@
 -- What an accepted sheet is: rising pairs of boxes below N behind a right trailer, and the table that has exactly these links. Assumes nothing.
-use Prim.Native.Nat.{ℕ, zero, suc, _+_, _-_, _*_, _≤_, _<_}
-use mathlib.Core.Path.{_≡_, refl, sym, ap, ap₂, _∙_}
-use mathlib.Core.Bool.{Bool, true, false, not, _&&_, _||_, true≢false}
-use mathlib.Core.List.{List, [], _∷_, _++_}
-use mathlib.Core.Logic.{_⊎_, inl, inr, ⊎-elim}
+use Prim.Native.Nat.{ℕ, _+_, _*_, _≤_, _<_}
+use mathlib.Core.Path.{_≡_, refl, sym, ap, _∙_}
+use mathlib.Core.Bool.{true, true≢false}
+use mathlib.Core.List.{List}
+use mathlib.Core.Logic.{inl, inr}
 use native.Mathlib.Omega.{arith}
 use native.Mathlib.Decide.{decLe, ℕ-discrete}
-use lib.Dec.{eqb, ltb, leb}
-use lib.ListN.{length, take, drop, replicate, length-take, length-drop}
+use lib.ListN.{length, replicate, length-take, length-drop}
 use lib.Pow.{pow-pos}
 use Rattle.rules.specs.Sets.{mem, word}
-use Rattle.rules.specs.Outcome.{Outcome, refused, accepted, refuse, andThen}
+use Rattle.rules.specs.Outcome.{Outcome, refused, accepted, andThen}
 use Rattle.rules.specs.Sheet.{Sheet, readSheet, pairs, pairBytes, mostLinks, linkCount}
 use Rattle.rules.specs.Rest.{Table}
 use Rattle.sets.specs.Mem.{mem-empty, set-ext}
-use Rattle.sheet_laws.specs.Conditions.{B, P, N, version, Linked, None, sheetLines}
+use Rattle.sheet_laws.specs.Conditions.{B, P, N, version}
 use Rattle.sheet_laws.specs.Answers.{clash}
 use Rattle.sheet_laws.specs.Refusals.{whole, readSheet-answers}
-use Rattle.sheet_laws.specs.Rising.{In, Rising, Chain, chain-rising}
-use Rattle.sheet_laws.specs.Pairs.{Pair, pair, flat, flat-length, Up, up-trans, Below, linkAll, evens, pairs-accepted, refuse-accepted}
+use Rattle.sheet_laws.specs.Rising.{In, Rising, chain-rising}
+use Rattle.sheet_laws.specs.Pairs.{Pair, pair, flat, flat-length, Up, up-trans, Below, evens, pairs-accepted, refuse-accepted}
 use Rattle.sheet_laws.specs.Links.{made, made-table, made-fine}
 use Rattle.sheet_laws.specs.LinkPairs.{linkPairs-count}
 use Rattle.sheet_laws.specs.Back.{list-back}

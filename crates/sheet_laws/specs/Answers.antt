@@ -1,10 +1,10 @@
 -- An answer made of tests one after another is refused by the first line that applies, and accepted where none does: one law for a test put in front,
 -- one for a second answer put behind. Assumes nothing.
 use Prim.Native.Nat.{ℕ, zero, suc, _≤_, _<_}
-use mathlib.Core.Path.{_≡_, refl, sym, ap, _∙_}
+use mathlib.Core.Path.{_≡_, refl, sym}
 use mathlib.Core.Bool.{Bool, true, false, not, _&&_, _||_, true≢false, false≢true}
 use mathlib.Core.List.{List, [], _∷_, _++_}
-use mathlib.Core.Logic.{_⊎_, inl, inr, ⊎-elim, _≢_, _↔_}
+use mathlib.Core.Logic.{_⊎_, inl, inr, ⊎-elim, _↔_}
 use native.Mathlib.Omega.{arith}
 use borrow.Author.Tests.{ltb-true, ltb-false, leb-true, leb-false, eqb-true, eqb-false}
 use lib.Dec.{eqb, ltb, leb}
@@ -93,13 +93,13 @@ refuse-answers false n p o ls t rest = record {
 
 -- ---- lines behind lines
 
-none-append : (ls ms : List Line) → None (ls ++ ms) ↔ (None ls × None ms)
+pub none-append : (ls ms : List Line) → None (ls ++ ms) ↔ (None ls × None ms)
 none-append [] ms = ((λ h. (tt, h)), λ h. h .1)
 none-append (l ∷ ls) ms =
     let (f, g) = none-append ls ms in
     ((λ h. let (x, y) = f (h .1) in ((h .0, x), y)), λ h. (h .0 .0, g (h .0 .1, h .1)))
 
-first-append : (ls ms : List Line) (n p : ℕ) → First (ls ++ ms) n p ↔ (First ls n p ⊎ (None ls × First ms n p))
+pub first-append : (ls ms : List Line) (n p : ℕ) → First (ls ++ ms) n p ↔ (First ls n p ⊎ (None ls × First ms n p))
 first-append [] ms n p = ((λ h. inr (tt, h)), ⊎-elim (λ z. absurd z) (λ h. h .1))
 first-append (l ∷ ls) ms n p =
     let (f, g) = first-append ls ms n p in (

@@ -1,18 +1,16 @@
 -- A rising list of pairs and its table tell each other: the pairs of the table that it makes are the list, and the table that a table's pairs make is the table.
 -- Assumes nothing.
-use Prim.Native.Nat.{ℕ, zero, suc, _^_, _≤_, _<_}
-use mathlib.Core.Path.{_≡_, refl, sym, ap, _∙_}
-use mathlib.Core.Bool.{Bool, true, false}
-use mathlib.Core.List.{List, [], _∷_}
-use mathlib.Core.Logic.{_⊎_, inl, inr, ⊎-elim}
+use Prim.Native.Nat.{ℕ, _≤_, _<_}
+use mathlib.Core.Path.{_≡_, sym, _∙_}
+use mathlib.Core.List.{List}
+use mathlib.Core.Logic.{⊎-elim}
 use native.Mathlib.Omega.{arith}
 use native.Mathlib.Decide.{decLt}
 use lib.ListN.{length}
 use lib.Seq.{ext-getD}
-use Rattle.rules.specs.Sets.{mem, word}
-use Rattle.sets.specs.Mem.{set-ext, in-lt}
-use Rattle.sheet_laws.specs.Conditions.{Linked}
-use Rattle.sheet_laws.specs.Proper.{Words, Fine}
+use Rattle.sets.specs.Mem.{set-ext}
+use Rattle.sheet_laws.specs.Conditions.{Words, Linked}
+use Rattle.sheet_laws.specs.Proper.{Fine}
 use Rattle.sheet_laws.specs.Rising.{In, Rising, rising-same}
 use Rattle.sheet_laws.specs.Pairs.{Pair, pair, Up, up-asym, Below}
 use Rattle.sheet_laws.specs.Links.{made, made-length, made-small, made-in, in-made}

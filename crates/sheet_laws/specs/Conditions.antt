@@ -1,8 +1,8 @@
 -- When each number is given, in the words of document 01's table ("Numbers given when the hub refuses"), and the order of the numbers. Definitions alone:
 -- a reader must believe these. Refusals has the theorems: the answer's number is that of the first line that applies, and it is accepted where none does.
-use Prim.Native.Nat.{ℕ, zero, suc, _+_, _-_, _*_, _≤_, _<_}
+use Prim.Native.Nat.{ℕ, zero, suc, _+_, _-_, _*_, _^_, _≤_, _<_}
 use mathlib.Core.Path.{_≡_}
-use mathlib.Core.Bool.{true, false}
+use mathlib.Core.Bool.{true}
 use mathlib.Core.List.{List, [], _∷_, _++_}
 use mathlib.Core.Logic.{_⊎_, _≢_}
 use lib.ListN.{length}
@@ -111,6 +111,10 @@ abbrev pub readLines : ℕ → List ℕ → List ℕ → List Line
 readLines w s table = sheetLines w s ++ (line 12 0 (Cond12 w table) ∷ [])
 
 -- ---- "Writing tests 3, 14, 15."
+
+-- each word of the table is a set of boxes below w, as every word of 16 bits is of the boxes below 16: the theorems on writing are of such tables
+abbrev pub Words : ℕ → List ℕ → Type 0
+Words w t = (i : ℕ) → word t i < 2 ^ w
 
 -- the table links box i to box j
 abbrev pub Linked : List ℕ → ℕ → ℕ → Type 0

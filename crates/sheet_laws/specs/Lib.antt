@@ -10,3 +10,4 @@ pub mod LinkPairs
 pub mod Back
 pub mod Accepted
 pub mod RoundTrip
+pub mod Numbers

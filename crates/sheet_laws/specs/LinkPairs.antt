@@ -1,15 +1,15 @@
 -- The links of a table as a list of pairs: it rises, its entries are the links from a lower box to a higher one, its bytes are `linkBytes` and its length is
 -- `linkCount`, at most `mostLinks`. Assumes nothing.
-use Prim.Native.Nat.{ℕ, zero, suc, _+_, _-_, _*_, _≤_, _<_}
-use mathlib.Core.Path.{_≡_, refl, sym, ap, ap₂, _∙_}
-use mathlib.Core.Bool.{Bool, true, false, _&&_, cond, true≢false, false≢true}
+use Prim.Native.Nat.{ℕ, zero, suc, _-_, _≤_, _<_}
+use mathlib.Core.Path.{_≡_, refl, ap, _∙_}
+use mathlib.Core.Bool.{Bool, true, false, _&&_, cond}
 use mathlib.Core.List.{List, [], _∷_, _++_}
-use mathlib.Core.Logic.{_⊎_, inl, inr, ⊎-elim}
+use mathlib.Core.Logic.{inl, inr, ⊎-elim}
 use native.Mathlib.Omega.{arith}
 use borrow.Author.Tests.{ltb-true, lt-ltb}
 use lib.Dec.{ltb}
 use lib.ListN.{length}
-use Rattle.rules.specs.Sets.{mem, word, count, sum, each}
+use Rattle.rules.specs.Sets.{mem, word, count, each}
 use Rattle.rules.specs.Sheet.{linkBytes, linkCount, mostLinks}
 use Rattle.sets.specs.Mem.{and-both}
 use Rattle.sets.specs.Loops.{count-mono, sum-same, each-same}

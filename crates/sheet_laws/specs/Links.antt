@@ -1,9 +1,9 @@
 -- The table that a list of pairs makes: its links are exactly the pairs, both ways. Assumes nothing.
-use Prim.Native.Nat.{ℕ, zero, suc, _+_, _*_, _^_, _≤_, _<_}
-use mathlib.Core.Path.{_≡_, refl, sym, ap, ap₂, _∙_}
-use mathlib.Core.Bool.{Bool, true, false, true≢false, false≢true}
-use mathlib.Core.List.{List, [], _∷_, _++_}
-use mathlib.Core.Logic.{_⊎_, inl, inr, ⊎-elim, _≢_}
+use Prim.Native.Nat.{ℕ, _^_, _≤_, _<_}
+use mathlib.Core.Path.{_≡_, refl, sym, _∙_}
+use mathlib.Core.Bool.{true, true≢false}
+use mathlib.Core.List.{List, [], _∷_}
+use mathlib.Core.Logic.{_⊎_, inl, inr, ⊎-elim}
 use native.Mathlib.Omega.{arith}
 use native.Mathlib.Decide.{decLt, ℕ-discrete}
 use lib.Bits.{or-lt}
@@ -15,8 +15,8 @@ use Rattle.rules.specs.Rest.{Table}
 use Rattle.sets.specs.Mem.{mem-empty, in-or, or-l, or-r, in-one, one-in}
 use Rattle.sets.specs.Loops.{by-bool}
 use Rattle.sets.specs.Tables.{joinAt-length, joinAt-same, joinAt-other}
-use Rattle.sheet_laws.specs.Conditions.{Linked}
-use Rattle.sheet_laws.specs.Proper.{Words, Fine}
+use Rattle.sheet_laws.specs.Conditions.{Words, Linked}
+use Rattle.sheet_laws.specs.Proper.{Fine}
 use Rattle.sheet_laws.specs.Rising.{In}
 use Rattle.sheet_laws.specs.Pairs.{Pair, pair, pair-eq, Below, linkAll}
 

@@ -1,18 +1,18 @@
 -- Reading a list of pairs: it is accepted exactly where the pairs rise and name boxes below n, and then gives the table with these links. Assumes nothing.
-use Prim.Native.Nat.{ℕ, zero, suc, _+_, _*_, _≤_, _<_}
-use mathlib.Core.Path.{_≡_, refl, sym, ap, ap₂, _∙_}
-use mathlib.Core.Bool.{Bool, true, false, not, _&&_, _||_, true≢false}
+use Prim.Native.Nat.{ℕ, zero, suc, _*_, _<_}
+use mathlib.Core.Path.{_≡_, refl, ap, _∙_}
+use mathlib.Core.Bool.{Bool, true, false, not, _||_, true≢false}
 use mathlib.Core.List.{List, [], _∷_, _++_}
-use mathlib.Core.Logic.{_⊎_, inl, inr, ⊎-elim}
+use mathlib.Core.Logic.{inl, inr, ⊎-elim}
 use native.Mathlib.Omega.{arith}
 use borrow.Author.Tests.{leb-false, not-false}
-use lib.Dec.{eqb, ltb, leb}
+use lib.Dec.{leb}
 use lib.ListN.{length}
-use Rattle.rules.specs.Outcome.{Outcome, refused, accepted, refuse, andThen}
+use Rattle.rules.specs.Outcome.{Outcome, accepted, refuse}
 use Rattle.rules.specs.Sheet.{pairs, above, link}
 use Rattle.sheet_laws.specs.Conditions.{Above}
-use Rattle.sheet_laws.specs.Answers.{Tests, test-true, test-false, leb-tests, or-tests, not-tests, lower-tests, above-tests, clash}
-use Rattle.sheet_laws.specs.Rising.{In, Rising, Chain}
+use Rattle.sheet_laws.specs.Answers.{test-true, test-false, leb-tests, or-tests, lower-tests, above-tests, clash}
+use Rattle.sheet_laws.specs.Rising.{In, Chain}
 
 pub record Pair : Type 0 where
   pub low : ℕ

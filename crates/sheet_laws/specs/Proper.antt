@@ -1,7 +1,7 @@
--- A table to write is proper exactly where none of the four parts of number 14 applies. A table's words are sets of w boxes: `Words`. Assumes nothing.
-use Prim.Native.Nat.{ℕ, zero, suc, _^_, _≤_, _<_}
-use mathlib.Core.Path.{_≡_, refl, sym, ap, _∙_}
-use mathlib.Core.Bool.{Bool, true, false, not, _&&_, _||_, true≢false, false≢true}
+-- A table to write is proper exactly where none of the four parts of number 14 applies. Assumes nothing.
+use Prim.Native.Nat.{ℕ, _<_}
+use mathlib.Core.Path.{_≡_, refl, sym, _∙_}
+use mathlib.Core.Bool.{Bool, true, false, not, _&&_, _||_, true≢false}
 use mathlib.Core.List.{List}
 use mathlib.Core.Logic.{_⊎_, inl, inr, ⊎-elim, _≢_}
 use native.Mathlib.Omega.{arith}
@@ -13,12 +13,8 @@ use Rattle.rules.specs.Sets.{mem, word, all}
 use Rattle.rules.specs.Sheet.{proper}
 use Rattle.sets.specs.Mem.{mem-empty, in-lt, and-both}
 use Rattle.sets.specs.Loops.{by-bool, all-out, all-in, all-not}
-use Rattle.sheet_laws.specs.Conditions.{Linked, NotSame, ToItself, TooHigh, Cond14}
-use Rattle.sheet_laws.specs.Answers.{Tests, test-true, ltb-tests, eqb-tests, not-tests, or-tests, and-tests}
-
--- each word is a set of boxes below w, as each word of 16 bits is of the boxes below 16
-abbrev pub Words : ℕ → List ℕ → Type 0
-Words w t = (i : ℕ) → word t i < 2 ^ w
+use Rattle.sheet_laws.specs.Conditions.{Words, Linked, NotSame, ToItself, TooHigh, Cond14}
+use Rattle.sheet_laws.specs.Answers.{Tests, test-true, ltb-tests, eqb-tests, not-tests, and-tests}
 
 -- what a link of a proper table is: the same the other way, not from a box to itself, and both boxes below N
 pub record Fine (n : ℕ) (t : List ℕ) (i j : ℕ) : Type 0 where

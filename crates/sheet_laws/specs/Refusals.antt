@@ -1,21 +1,19 @@
--- scratch
-use Prim.Native.Nat.{ℕ, zero, suc, _+_, _-_, _*_, _≤_, _<_}
-use mathlib.Core.Path.{_≡_, refl, sym, ap, _∙_}
-use mathlib.Core.Bool.{Bool, true, false, not, _&&_, _||_}
-use mathlib.Core.List.{List, [], _∷_, _++_}
-use mathlib.Core.Logic.{_⊎_, inl, inr, ⊎-elim, _≢_, _↔_}
+-- The refusal's number and place are those of the first line that applies, and it is accepted where none does: `readSheet-answers` (1 to 8),
+-- `reading-answers` (12 after them), `writeSheet-answers` (3, 14, 15), for any most number of boxes w. Assumes nothing.
+use Prim.Native.Nat.{ℕ, zero, suc, _+_, _-_, _*_, _≤_}
+use mathlib.Core.Path.{_≡_}
+use mathlib.Core.Bool.{not}
+use mathlib.Core.List.{List, _∷_}
+use mathlib.Core.Logic.{inl, inr}
 use native.Mathlib.Omega.{arith}
 use native.Mathlib.Decide.{decLe, ℕ-discrete}
-use borrow.Author.Tests.{leb-true, leb-false}
-use lib.ListN.{length, getD, take, drop, replicate}
+use lib.ListN.{length, take, drop, replicate}
 use lib.Seq.{drop-cons}
-use lib.Dec.{eqb, ltb, leb}
-use Rattle.rules.specs.Sets.{mem, word}
-use Rattle.rules.specs.Outcome.{Outcome, refused, accepted, refuse, andThen}
-use Rattle.rules.specs.Sheet.{Sheet, readSheet, pairs, pairBytes, above, link, mostLinks, linkCount, sheetBytes, writeSheet}
+use Rattle.rules.specs.Sets.{word}
+use Rattle.rules.specs.Sheet.{readSheet, pairs, pairBytes, above, link, mostLinks, linkCount, sheetBytes, writeSheet}
 use Rattle.rules.specs.Calls.{reading}
-use Rattle.sheet_laws.specs.Conditions.{Line, line, First, None, B, P, N, version, first, second, Above, Cond1, Cond2, Cond3, Cond4, Cond5, Cond6, Cond7, Cond8, pairLines, sheetLines, readLines, writeLines}
-use Rattle.sheet_laws.specs.Proper.{Words, proper-tests}
+use Rattle.sheet_laws.specs.Conditions.{Words, B, P, N, version, first, second, Cond5, Cond7, Cond8, pairLines, sheetLines, readLines, writeLines}
+use Rattle.sheet_laws.specs.Proper.{proper-tests}
 use Rattle.sheet_laws.specs.Answers.{Tests, ltb-tests, leb-tests, eqb-tests, not-tests, or-tests, lower-tests, above-tests, above-zero, Answers, accepted-answers, refuse-answers, then-answers, form-answers}
 
 -- ---- the pairs

@@ -1,21 +1,23 @@
--- scratch
-use Prim.Native.Nat.{ℕ, zero, suc, _+_, _-_, _*_, _^_, _≤_, _<_}
-use mathlib.Core.Path.{_≡_, refl, sym, ap, ap₂, _∙_}
-use mathlib.Core.Bool.{Bool, true, false, not, _&&_, _||_}
-use mathlib.Core.List.{List, [], _∷_, _++_, append-assoc}
-use mathlib.Core.Logic.{_⊎_, inl, inr, ⊎-elim}
+-- The round trip of document 01, "The link sheet", for any most number of boxes w: `reads-back`, `writes-back` and `pairs-alone`. Both directions go through
+-- the rising list of a table's pairs. `reads-back` is of tables whose words are sets of w boxes: the test of number 14 looks at no digit past w, so a wider
+-- word would be written and not come back. Assumes nothing.
+use Prim.Native.Nat.{ℕ, suc, _+_, _-_, _*_, _≤_, _<_}
+use mathlib.Core.Path.{_≡_, refl, sym, ap, _∙_}
+use mathlib.Core.Bool.{true, not, _||_}
+use mathlib.Core.List.{List, [], _∷_, _++_}
+use mathlib.Core.Logic.{inl, inr}
 use native.Mathlib.Omega.{arith}
-use lib.Dec.{eqb, ltb, leb}
+use lib.Dec.{eqb, ltb}
 use native.Mathlib.Decide.{decLe}
 use borrow.Author.Tests.{le-ltb, eq-eqb, ne-eqb, not-false}
-use lib.ListN.{length, getD, take, drop, replicate, length-append, length-take, length-drop, take-append-drop}
+use lib.ListN.{length, take, drop, replicate, length-append, take-append-drop}
 use lib.Seq.{getD-append-add, drop-append-add, take-at, drop-drop, drop-cons, drop-length}
-use Rattle.rules.specs.Sets.{mem, word}
-use Rattle.rules.specs.Outcome.{Outcome, refused, accepted, refuse, andThen}
-use Rattle.rules.specs.Sheet.{Sheet, readSheet, pairs, pairBytes, mostLinks, linkCount, linkBytes, sheetBytes, proper, writeSheet, ReadsBack, WritesBack, PairsAlone}
-use Rattle.sheet_laws.specs.Conditions.{B, P, N, version}
-use Rattle.sheet_laws.specs.Answers.{Tests, eqb-tests, ltb-tests, or-tests, above-zero}
-use Rattle.sheet_laws.specs.Proper.{Words, proper-fine, fine-proper}
+use Rattle.rules.specs.Sets.{word}
+use Rattle.rules.specs.Outcome.{accepted, refuse, andThen}
+use Rattle.rules.specs.Sheet.{Sheet, readSheet, pairs, pairBytes, mostLinks, linkCount, linkBytes, sheetBytes, proper, writeSheet, WritesBack, PairsAlone}
+use Rattle.sheet_laws.specs.Conditions.{Words, B, P, N, version}
+use Rattle.sheet_laws.specs.Answers.{eqb-tests, ltb-tests, or-tests, above-zero}
+use Rattle.sheet_laws.specs.Proper.{proper-fine, fine-proper}
 use Rattle.sheet_laws.specs.Rising.{rising-chain}
 use Rattle.sheet_laws.specs.Pairs.{Pair, pair, flat, flat-length, Up, pairs-read, refuse-accepted}
 use Rattle.sheet_laws.specs.Links.{made, made-length, made-fine}
