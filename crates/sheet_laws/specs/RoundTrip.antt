@@ -1,6 +1,5 @@
 -- The round trip of document 01, "The link sheet", for any most number of boxes w: `reads-back`, `writes-back` and `pairs-alone`. Both directions go through
--- the rising list of a table's pairs. `reads-back` is of tables whose words are sets of w boxes: the test of number 14 looks at no digit past w, so a wider
--- word would be written and not come back. Assumes nothing.
+-- the rising list of a table's pairs. Assumes nothing.
 use Prim.Native.Nat.{ℕ, suc, _+_, _-_, _*_, _≤_, _<_}
 use mathlib.Core.Path.{_≡_, refl, sym, ap, _∙_}
 use mathlib.Core.Bool.{true, not, _||_}
@@ -14,7 +13,7 @@ use lib.ListN.{length, take, drop, replicate, length-append, take-append-drop}
 use lib.Seq.{getD-append-add, drop-append-add, take-at, drop-drop, drop-cons, drop-length}
 use Rattle.rules.specs.Sets.{word}
 use Rattle.rules.specs.Outcome.{accepted, refuse, andThen}
-use Rattle.rules.specs.Sheet.{Sheet, readSheet, pairs, pairBytes, mostLinks, linkCount, linkBytes, sheetBytes, proper, writeSheet, WritesBack, PairsAlone}
+use Rattle.rules.specs.Sheet.{Sheet, readSheet, pairs, pairBytes, mostLinks, linkCount, linkBytes, sheetBytes, proper, writeSheet, ReadsBack, WritesBack, PairsAlone}
 use Rattle.sheet_laws.specs.Conditions.{Words, B, P, N, version}
 use Rattle.sheet_laws.specs.Answers.{eqb-tests, ltb-tests, or-tests, above-zero}
 use Rattle.sheet_laws.specs.Proper.{proper-fine, fine-proper}
@@ -123,8 +122,7 @@ written w n p l t one few most number e =
     part = trailed-part (flat l) (4 + 2 * p) p n 1 p (omega (arith, number, flat-length l))
 
 -- "Reading a written sheet gives the table back": of a table whose words are sets of w boxes
-pub reads-back : (w n : ℕ) (t : List ℕ) (size : ℕ) (bytes : List ℕ) → Words w t → writeSheet w n t size ≡ accepted bytes
-    → readSheet w bytes ≡ accepted (record { boxes = n; links = linkCount w t; table = t })
+pub reads-back : (w : ℕ) → ReadsBack w
 unfolding writeSheet sheetBytes
 reads-back w n t size bytes v e =
     let (f3, e3) = refuse-accepted (eqb n 0 || ltb w n) 3 0 _ e in
