@@ -1,1 +1,3 @@
 pub mod Rounds
+pub mod Messages
+pub mod Stream
