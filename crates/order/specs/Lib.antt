@@ -1,3 +1,5 @@
 pub mod Rounds
 pub mod Messages
 pub mod Stream
+pub mod Sums
+pub mod Wire
