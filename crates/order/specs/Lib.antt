@@ -3,3 +3,5 @@ pub mod Messages
 pub mod Stream
 pub mod Sums
 pub mod Wire
+pub mod Invariant
+pub mod Save

@@ -24,6 +24,10 @@ use Rattle.order.specs.Sums.{sum-more, sum-but-one}
 abbrev pub Own : (ℕ → ℕ) → (ℕ → Type 0) → ℕ → ℕ → Type 0
 Own f G k s = (s ≡ f k) × G k
 
+-- a box of j's group
+abbrev pub Mate : ℕ → List ℕ → ℕ → ℕ → Type 0
+Mate w t j k = (k < w) × (hops w t j k < w)
+
 -- a run of messages is as long as its NOTSPT and the lists of each box together
 pub length-tally : (w : ℕ) (c : List Msg) → Every (λ k s. k < w) c → length c ≡ sets c + sum w (λ k. tally k c)
 unfolding sets tally
@@ -174,11 +178,11 @@ module _ (w : ℕ) (t : List ℕ) where
 
   module _ (s : Table w t) where
     -- every list on the wire is the box's own, and its box is in the receiver's group
-    pub wire-own : (i j n : ℕ) → i < w → j < w → Every (Own (word t) (λ k. hops w t j k < w)) (wire i j n)
+    pub wire-own : (i j n : ℕ) → i < w → j < w → Every (Own (word t) (Mate w t j)) (wire i j n)
     unfolding wire
     wire-own i j n hi hj =
-        every-stream (word t) (origins i j) (saidSet w t i j) (Own (word t) (λ k. hops w t j k < w))
-        (λ r k m. let (a, b, c) = origin-is i j r k m in (refl, taken-group w t s i j k hi hj c .1)) n 0
+        every-stream (word t) (origins i j) (saidSet w t i j) (Own (word t) (Mate w t j))
+        (λ r k m. let (a, b, c) = origin-is i j r k m in (refl, (a, taken-group w t s i j k hi hj c .1))) n 0
 
     -- "The list of k reaches i over from(i, k) before that neighbour's set number hops(i, k) + 1"
     pub has-come : (i j n : ℕ) (past : List Msg) (x : ℕ) → i < w → j < w → At i j n past x
