@@ -5,3 +5,4 @@ pub mod Sums
 pub mod Wire
 pub mod Invariant
 pub mod Save
+pub mod Take
