@@ -6,3 +6,4 @@ pub mod Wire
 pub mod Invariant
 pub mod Save
 pub mod Take
+pub mod Round
