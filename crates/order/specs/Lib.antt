@@ -7,3 +7,4 @@ pub mod Invariant
 pub mod Save
 pub mod Take
 pub mod Round
+pub mod Work
