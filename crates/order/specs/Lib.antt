@@ -8,3 +8,4 @@ pub mod Save
 pub mod Take
 pub mod Round
 pub mod Work
+pub mod Begin
