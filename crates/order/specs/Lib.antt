@@ -9,3 +9,4 @@ pub mod Take
 pub mod Round
 pub mod Work
 pub mod Begin
+pub mod Send
