@@ -110,6 +110,11 @@ module _ (w : ℕ) (t : List ℕ) where
     -- all that was sent on a wire is the wire's list, up to the sender's HOP
     pub log : (i k : ℕ) → mem k (word t i) ≡ true → (h .wires i k) .log ≡ wire w t i k (spoken (h .boxes i))
 
+  -- the same of all boxes, where box j is seen with `rest i` in place of what is under way from i to j
+  pub record Held (j : ℕ) (rest : ℕ → List Msg) (h : Hub) : Type 0 where
+    pub others : Others j h
+    pub seat : SeatOf h j rest
+
   -- the hub: every box is as it should be
   pub record Good (h : Hub) : Type 0 where
     pub seats : (j : ℕ) → j < w → SeatOf h j (ways h j)
@@ -120,9 +125,16 @@ module _ (w : ℕ) (t : List ℕ) where
 abbrev pub logged : ℕ → Hub → ℕ
 logged w h = sum w (λ a. sum w (λ b. length ((h .wires a b) .log)))
 
--- what is promised at every moment: the boxes and wires, the counts, and that no message was refused
+-- the counts
+pub record Counted (w : ℕ) (h : Hub) : Type 0 where
+  -- "sent = moved + under way always"
+  pub way : h .sent ≡ h .moved + underWay w h
+  -- "sent is the total length of its wire lists"
+  pub all : h .sent ≡ logged w h
+  -- no message was one too many for its wire and queue
+  pub room : h .full ≡ false
+
+-- what holds at every moment
 pub record Sound (w : ℕ) (t : List ℕ) (h : Hub) : Type 0 where
   pub good : Good w t h
-  pub way : h .sent ≡ h .moved + underWay w h
-  pub all : h .sent ≡ logged w h
-  pub room : h .full ≡ false
+  pub counted : Counted w h

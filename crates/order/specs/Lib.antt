@@ -10,3 +10,4 @@ pub mod Round
 pub mod Work
 pub mod Begin
 pub mod Send
+pub mod Settle
