@@ -11,3 +11,4 @@ pub mod Work
 pub mod Begin
 pub mod Send
 pub mod Settle
+pub mod Moves

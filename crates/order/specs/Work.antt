@@ -182,16 +182,16 @@ module _ (w : ℕ) (t : List ℕ) (s : Table w t) (j : ℕ) (hj : j < w) (n : �
   one-left (notspt s) = refl
   one-left (neighbors k s) = refl
 
-  module _ (a : ℕ) (m : Msg) (rest′ : ℕ → List Msg) (l : mem a (word t j) ≡ true) (first : rest′ a ≡ m ∷ rest a) (other : (i : ℕ) → i ≢ a → rest′ i ≡ rest i) (b : Box) (queue : ℕ → List Msg) where
+  module _ (a : ℕ) (m : Msg) (rest′ : ℕ → List Msg) (l : mem a (word t j) ≡ true) (first : rest′ a ≡ m ∷ rest a) (other : (i : ℕ) → mem i (word t j) ≡ true → i ≢ a → rest′ i ≡ rest i) (b : Box) (queue : ℕ → List Msg) where
     abbrev joined : Desk
     joined = record { box = b; queues = upd queue a (queue a ++ (m ∷ [])); sends = λ i. []; taken = λ i. [] }
 
-    joined-flow : (i : ℕ) → Flow w t i j (n i) (past i) (queue i) (rest′ i) b → Flow w t i j (n i) (past i ++ []) (upd queue a (queue a ++ (m ∷ [])) i) (rest i) b
-    joined-flow i f = rw (append-nil (past i)) (record {
+    joined-flow : (i : ℕ) → mem i (word t j) ≡ true → Flow w t i j (n i) (past i) (queue i) (rest′ i) b → Flow w t i j (n i) (past i ++ []) (upd queue a (queue a ++ (m ∷ [])) i) (rest i) b
+    joined-flow i v f = rw (append-nil (past i)) (record {
       all = f .all ∙ ap (λ (x : List Msg). past i ++ x) (elim (ℕ-discrete i a) [
         | yes z ↦ rw z (ap (λ (x : List Msg). queue a ++ x) first ∙ sym (append-assoc (queue a) (m ∷ []) (rest a))
             ∙ ap (λ (x : List Msg). x ++ rest a) (sym (upd-same queue a (queue a ++ (m ∷ [])))))
-        | no z ↦ ap₂ _++_ (sym (upd-other queue a _ i z)) (other i z)
+        | no z ↦ ap₂ _++_ (sym (upd-other queue a _ i z)) (other i v z)
       ]);
       num = f .num;
       kept = f .kept;
@@ -206,7 +206,7 @@ module _ (w : ℕ) (t : List ℕ) (s : Table w t) (j : ℕ) (hj : j < w) (n : �
       tables = p .tables;
       early = p .early;
       linked = p .linked;
-      flows = λ i v. joined-flow i (p .flows i v);
+      flows = λ i v. joined-flow i v (p .flows i v);
       mute = λ i v. off-link i v (p .mute);
     }
 
@@ -273,7 +273,7 @@ module _ (w : ℕ) (t : List ℕ) (s : Table w t) (j : ℕ) (hj : j < w) (n : �
           }
           | no z ↦ record {
             dropped = p .spent i v .dropped;
-            all = p .spent i v .all ∙ ap (λ (x : List Msg). past i ++ (p .spent i v .dropped ++ x)) (other i z);
+            all = p .spent i v .all ∙ ap (λ (x : List Msg). past i ++ (p .spent i v .dropped ++ x)) (other i v z);
             num = p .spent i v .num;
           }
         ]);
