@@ -12,3 +12,4 @@ pub mod Begin
 pub mod Send
 pub mod Settle
 pub mod Moves
+pub mod Reached
