@@ -13,3 +13,5 @@ pub mod Send
 pub mod Settle
 pub mod Moves
 pub mod Reached
+pub mod Rest
+pub mod End
