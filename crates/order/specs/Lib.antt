@@ -15,3 +15,4 @@ pub mod Moves
 pub mod Reached
 pub mod Rest
 pub mod End
+pub mod Lists
