@@ -16,3 +16,5 @@ pub mod Reached
 pub mod Rest
 pub mod End
 pub mod Lists
+pub mod Groups
+pub mod Sent
