@@ -18,3 +18,6 @@ pub mod End
 pub mod Lists
 pub mod Groups
 pub mod Sent
+pub mod Kept
+pub mod Drain
+pub mod Started
