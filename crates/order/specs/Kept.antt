@@ -14,7 +14,7 @@ use Rattle.rules.specs.Box.{Msg, Box, Desk, started, save, stops, takeSets, nex
 use Rattle.rules.specs.Hub.{Hub, send, sendList, sendAll, settle, start, popped, handOver, deliver, act, run, drain, startAll, queuesOf, sender, receiver}
 use Rattle.sets.specs.Loops.{by-bool, forEach-keeps}
 use Rattle.sets.specs.Tables.{eqb-eq, eq-eqb, ne-eqb, upd-same, upd-other}
-use Rattle.order.specs.Reached.{asks}
+use Rattle.order.specs.Terms.{asks}
 
 -- ---- sending touches no box and moves nothing
 

@@ -1,3 +1,4 @@
+pub mod Terms
 pub mod Rounds
 pub mod Messages
 pub mod Stream

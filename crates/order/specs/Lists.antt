@@ -14,19 +14,14 @@ use Rattle.rules.specs.Rest.{Table, hops, farthest, from, wireList}
 use Rattle.sets.specs.Loops.{by-bool, sum-same, sum-none}
 use Rattle.hops.specs.Hops.{hops-self, hops-zero}
 use Rattle.hops.specs.Rest.{from-ok, from-member, from-group, far-most}
+use Rattle.order.specs.Terms.{SetsOnly, handed, tally}
 use Rattle.order.specs.Rounds.{link-lt, links-lt, taken-near, taken-group}
-use Rattle.order.specs.Messages.{sets, sets-append, Says, says-l, says-where, tally, tally-append, tally-none, no-tally}
+use Rattle.order.specs.Messages.{sets, sets-append, Says, says-l, says-where, tally-append, tally-none, no-tally}
 use Rattle.order.specs.Sums.{sum-one, sum-le}
 use Rattle.order.specs.Wire.{wire, wire-sets, wire-begins, wire-list, list-place, tally-other, tally-one, tally-le}
 use Rattle.order.specs.Invariant.{Flow, Spent, Half, Awake, Stopped, Sleeps, Seat, sleeps, wakes, rests, spoken, SeatOf, ways, Good, restHop}
 use Rattle.order.specs.Work.{spoken-up, spoken-none}
 use Rattle.order.specs.Rest.{sleeps-at, wakes-at, stopped-at, rest-linked}
-
--- a run of messages without a list
-abbrev pub SetsOnly : List Msg → Type 0
-SetsOnly [] = Unit {0}
-SetsOnly (notspt s ∷ l) = SetsOnly l
-SetsOnly (neighbors k s ∷ l) = ⊥
 
 sets-only : (l : List Msg) → ((k : ℕ) → Says k l → ⊥) → SetsOnly l
 sets-only [] h = tt
@@ -36,10 +31,6 @@ sets-only (neighbors k s ∷ l) h = h k (inl refl)
 -- how often the list of k was sent to j
 abbrev pub gone : ℕ → Hub → ℕ → ℕ → ℕ
 gone w h j k = sum w (λ i. tally k ((h .wires i j) .log))
-
--- how often j has used the list of k
-unfoldable pub handed : ℕ → Hub → ℕ → ℕ → ℕ
-handed w h j k = sum w (λ i. tally k ((h .wires i j) .taken))
 
 module _ (w : ℕ) (t : List ℕ) (s : Table w t) (h : Hub) (G : Good w t h) where
   -- ---- the wire lists

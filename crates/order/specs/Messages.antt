@@ -13,6 +13,7 @@ use Rattle.rules.specs.Box.{Msg, notspt, neighbors}
 use Rattle.sets.specs.Mem.{mem-empty}
 use Rattle.sets.specs.Loops.{by-bool}
 use Rattle.sets.specs.Tables.{eqb-eq, eq-eqb, ne-eqb}
+use Rattle.order.specs.Terms.{tally}
 use Rattle.order.specs.Rounds.{lt-suc}
 
 -- ---- the members of a set as a list
@@ -126,11 +127,7 @@ every-split P [] b e = (tt, e)
 every-split P (notspt s ∷ a) b e = every-split P a b e
 every-split P (neighbors j s ∷ a) b e = let (x, y) = every-split P a b (e .1) in ((e .0, x), y)
 
--- how often the list of k stands in c
-unfoldable pub tally : ℕ → List Msg → ℕ
-tally k [] = 0
-tally k (notspt s ∷ c) = tally k c
-tally k (neighbors j s ∷ c) = bit (eqb k j) + tally k c
+-- ---- how often the list of k stands in c
 
 pub tally-append : (k : ℕ) (a b : List Msg) → tally k (a ++ b) ≡ tally k a + tally k b
 unfolding tally

@@ -15,32 +15,11 @@ use Rattle.rules.specs.Rest.{Table}
 use Rattle.sets.specs.Mem.{T-true, true-T}
 use Rattle.sets.specs.Loops.{by-bool, forEach-keeps, sum-same, sum-none}
 use Rattle.sets.specs.Tables.{eqb-eq, eq-eqb, eqb-ne}
+use Rattle.order.specs.Terms.{Reached, begin, starts, delivers, Names}
 use Rattle.order.specs.Wire.{wire-none}
 use Rattle.order.specs.Invariant.{Sleeps, Seat, sleeps, spoken, Good, Counted, Sound, logged}
 use Rattle.order.specs.Send.{ltb-lt}
 use Rattle.order.specs.Moves.{start-sound, deliver-sound}
-
--- a hub that starts and deliveries lead to, in any order, from the sleeping one
-pub data Reached (w room : ℕ) (t : List ℕ) : Hub → Type 0 where
-  asleep : Reached w room t (sleeping w)
-  starts : {h : Hub} (i : ℕ) → i < w → Reached w room t h → Reached w room t (start w room t i h)
-  delivers : {h : Hub} (a b : ℕ) → Reached w room t h → Reached w room t (deliver w room t a b h)
-
--- what is checked of a list: every pair names boxes below w, and two different boxes only where there is a link
-abbrev pub Names : ℕ → List ℕ → List ℕ → Type 0
-Names w t [] = Unit {0}
-Names w t (a ∷ []) = Unit {0}
-Names w t (a ∷ b ∷ l) = ((a < w) × (b < w)) × ((a ≡ b) ⊎ (mem b (word t a) ≡ true)) × Names w t l
-
--- the list starts box k
-unfoldable pub asks : ℕ → List ℕ → Bool
-asks k [] = false
-asks k (a ∷ []) = false
-asks k (a ∷ b ∷ l) = (eqb a b && eqb a k) || asks k l
-
--- the set of the boxes that the list starts
-unfoldable pub startsOf : ℕ → List ℕ → ℕ
-startsOf w l = setOf w (λ k. asks k l)
 
 -- ---- the list's check
 
@@ -116,6 +95,6 @@ module _ (w room : ℕ) (t : List ℕ) where
 
     module _ (hr : w + 1 ≤ room) where
       pub sound : {h : Hub} → Reached w room t h → Sound w t h
-      sound asleep = asleep-sound
+      sound begin = asleep-sound
       sound (starts {h = h} i hi r) = start-sound w t s room hr h i hi (sound r)
       sound (delivers {h = h} a b r) = deliver-sound w t s room hr h a b (sound r)

@@ -15,8 +15,9 @@ use Rattle.rules.specs.Rest.{Table, hops, together, farthest, wiresOf, wireCoun
 use Rattle.sets.specs.Loops.{by-bool, sum-same, sum-none, count-same}
 use Rattle.sets.specs.Tables.{eqb-eq, eq-eqb, ne-eqb, eqb-ne}
 use Rattle.hops.specs.Hops.{hops-zero, hops-near}
+use Rattle.order.specs.Terms.{tally}
 use Rattle.order.specs.Rounds.{link-lt, links-lt}
-use Rattle.order.specs.Messages.{sets, tally, no-sets, no-tally}
+use Rattle.order.specs.Messages.{sets, no-sets, no-tally}
 use Rattle.order.specs.Sums.{sum-plus, sum-more, sum-swap, sum-le, sum-times, sum-flat, sum-but-one, sum-cut, sum-cond, count-sum}
 use Rattle.order.specs.Wire.{wire, wire-sets, wire-small, length-tally}
 use Rattle.order.specs.Invariant.{Awake, Stopped, Sleeps, Seat, sleeps, wakes, rests, spoken, Good, Counted, restHop, ways}

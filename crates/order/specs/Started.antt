@@ -14,10 +14,10 @@ use Rattle.rules.specs.Rest.{Table, hops, together, reached, atRest, sentAtRest
 use Rattle.sets.specs.Mem.{Is, in-lt}
 use Rattle.sets.specs.Loops.{by-bool, forEach-keeps, sum-same}
 use Rattle.sets.specs.Tables.{eqb-eq, eq-eqb, upd-same, upd-other}
+use Rattle.order.specs.Terms.{Names, asks, startsOf, Final, Alike}
 use Rattle.order.specs.Rounds.{setOf-is, link-lt, links-lt}
 use Rattle.order.specs.Invariant.{Good, Counted, Sound}
 use Rattle.order.specs.Moves.{start-sound, deliver-sound, full-link}
-use Rattle.order.specs.Reached.{Names, asks, startsOf}
 use Rattle.order.specs.Rest.{at-rest, sleeps-at, together-lt, lt-together}
 use Rattle.order.specs.End.{Idle, under-idle, group-stopped, sender-up}
 use Rattle.order.specs.Groups.{self-together, together-sym, together-trans, reached-in, reached-out}
@@ -107,14 +107,7 @@ module _ (w : ℕ) (t : List ℕ) (s : Table w t) (room : ℕ) (hr : w + 1 ≤ r
 
   -- ---- the end
 
-  -- a hub at rest, of whose boxes those of x were started
-  pub record Final (h : Hub) : Type 0 where
-    pub stopped : (i : ℕ) → i < w → reached w t x i ≡ true → h .boxes i ≡ atRest w t i
-    pub asleep : (i : ℕ) → i < w → reached w t x i ≡ false → h .boxes i ≡ asleep w
-    pub sent : h .sent ≡ sentAtRest w t x
-    pub moved : h .moved ≡ sentAtRest w t x
-
-  pub final : (h : Hub) → Sound w t h → Rooted h → ((k : ℕ) → k < w → mem k x ≡ true → (h .boxes k) .state ≢ 0) → underWay w h ≡ 0 → Final h
+  pub final : (h : Hub) → Sound w t h → Rooted h → ((k : ℕ) → k < w → mem k x ≡ true → (h .boxes k) .state ≢ 0) → underWay w h ≡ 0 → Final w t x h
   final h S y up e =
       let I : Idle h = under-idle w t s h (S .good) e in
       let stop : (i : ℕ) → i < w → reached w t x i ≡ true → (h .boxes i) .state ≡ 2 = λ i hi r.
@@ -125,21 +118,21 @@ module _ (w : ℕ) (t : List ℕ) (s : Table w t) (room : ℕ) (hr : w + 1 ≤ r
       let n : h .sent ≡ sentAtRest w t x = sent-rest w t s h (S .good) I x stop sleep (S .counted) in
       record {
         stopped = λ i hi r. at-rest w t s h i hi (S .good) (stop i hi r);
-        asleep = λ i hi r. sleeps-at w t h i hi (S .good) (sleep i hi r) .blank;
+        sleep = λ i hi r. sleeps-at w t h i hi (S .good) (sleep i hi r) .blank;
         sent = n;
         moved = omega (arith, S .counted .way);
       }
 
 module _ (w : ℕ) (t : List ℕ) (s : Table w t) (room : ℕ) (hr : w + 1 ≤ room) (S : Sound w t (sleeping w)) where
   pub run-final : (l : List ℕ) → Names w t l → Sound w t (run w room t l (sleeping w)) → underWay w (run w room t l (sleeping w)) ≡ 0
-      → Final w t s room hr (startsOf w l) (run w room t l (sleeping w))
+      → Final w t (startsOf w l) (run w room t l (sleeping w))
   run-final l n T e =
       final w t s room hr (startsOf w l) (run w room t l (sleeping w)) T
       (run-rooted w t s room hr (startsOf w l) l (sleeping w) n (λ k hk a. starts-is w l .put k hk a) S (asleep-rooted w t s room hr (startsOf w l)))
       (λ k hk m. asked-up w room t l (sleeping w) k (starts-is w l .get k m)) e
 
   pub drain-final : (x f : ℕ) → Sound w t (drain w room t f (startAll w room t x (sleeping w))) → underWay w (drain w room t f (startAll w room t x (sleeping w))) ≡ 0
-      → Final w t s room hr x (drain w room t f (startAll w room t x (sleeping w)))
+      → Final w t x (drain w room t f (startAll w room t x (sleeping w)))
   drain-final x f T e =
       let (A, y) = all-rooted w t s room hr x (sleeping w) S (asleep-rooted w t s room hr x) in
       final w t s room hr x (drain w room t f (startAll w room t x (sleeping w))) T
@@ -152,16 +145,11 @@ module _ (w : ℕ) (t : List ℕ) (s : Table w t) (room : ℕ) (hr : w + 1 ≤ r
   unfolding sentAtRest
   sent-same x y e = ap₂ _+_ (sum-same w _ _ (λ i hi. rw (e i hi))) (sum-same w _ _ (λ i hi. rw (e i hi)))
 
-  pub record Alike (g h : Hub) : Type 0 where
-    pub boxes : (i : ℕ) → i < w → g .boxes i ≡ h .boxes i
-    pub sent : g .sent ≡ h .sent
-    pub moved : g .moved ≡ h .moved
-
-  pub same-end : (x y : ℕ) (g h : Hub) → ((i : ℕ) → i < w → reached w t x i ≡ reached w t y i) → Final w t s room hr x g → Final w t s room hr y h → Alike g h
+  pub same-end : (x y : ℕ) (g h : Hub) → ((i : ℕ) → i < w → reached w t x i ≡ reached w t y i) → Final w t x g → Final w t y h → Alike w g h
   same-end x y g h e F H = record {
     boxes = λ i hi. by-bool (reached w t x i)
         (λ r. F .stopped i hi r ∙ sym (H .stopped i hi (sym (e i hi) ∙ r)))
-        (λ r. F .asleep i hi r ∙ sym (H .asleep i hi (sym (e i hi) ∙ r)));
+        (λ r. F .sleep i hi r ∙ sym (H .sleep i hi (sym (e i hi) ∙ r)));
     sent = F .sent ∙ sent-same x y e ∙ sym (H .sent);
     moved = F .moved ∙ sent-same x y e ∙ sym (H .moved);
   }

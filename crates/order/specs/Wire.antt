@@ -15,8 +15,9 @@ use Rattle.sets.specs.Mem.{Is, mem-empty, in-lt, not-both}
 use Rattle.sets.specs.Loops.{by-bool, sum-none}
 use Rattle.sets.specs.Tables.{eq-eqb, ne-eqb}
 use Rattle.hops.specs.Hops.{hops-self}
+use Rattle.order.specs.Terms.{tally}
 use Rattle.order.specs.Rounds.{passed, passed-is, taken-near, taken-group, said-first, link-lt}
-use Rattle.order.specs.Messages.{In, members-get, members-put, members-none, sets, Says, Every, every-split, tally, tally-append, no-tally, set-tally, tally-members, carry}
+use Rattle.order.specs.Messages.{In, members-get, members-put, members-none, sets, Says, Every, every-split, tally-append, no-tally, set-tally, tally-members, carry}
 use Rattle.order.specs.Stream.{stream, before, Cut, cut, place, block, stream-more, every-stream, says-before, sets-stream}
 use Rattle.order.specs.Sums.{sum-more, sum-but-one}
 
