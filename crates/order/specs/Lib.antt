@@ -22,3 +22,4 @@ pub mod Sent
 pub mod Kept
 pub mod Drain
 pub mod Started
+pub mod Promises

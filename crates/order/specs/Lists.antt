@@ -16,7 +16,7 @@ use Rattle.hops.specs.Hops.{hops-self, hops-zero}
 use Rattle.hops.specs.Rest.{from-ok, from-member, from-group, far-most}
 use Rattle.order.specs.Terms.{SetsOnly, handed, tally}
 use Rattle.order.specs.Rounds.{link-lt, links-lt, taken-near, taken-group}
-use Rattle.order.specs.Messages.{sets, sets-append, Says, says-l, says-where, tally-append, tally-none, no-tally}
+use Rattle.order.specs.Messages.{sets, sets-append, Says, says-l, says-r, says-where, tally-append, tally-none, no-tally}
 use Rattle.order.specs.Sums.{sum-one, sum-le}
 use Rattle.order.specs.Wire.{wire, wire-sets, wire-begins, wire-list, list-place, tally-other, tally-one, tally-le}
 use Rattle.order.specs.Invariant.{Flow, Spent, Half, Awake, Stopped, Sleeps, Seat, sleeps, wakes, rests, spoken, SeatOf, ways, Good, restHop}
@@ -102,6 +102,11 @@ module _ (w : ℕ) (t : List ℕ) (s : Table w t) (h : Hub) (G : Good w t h) whe
         late = none;
         num = omega (arith, P .last, F .num, wire-sets w t i j (spoken (h .boxes i)), ap sets (F .all), sets-append ((h .wires i j) .taken) (F .dropped ++ (h .wires i j) .way));
       }
+
+  pub late-none : (i j : ℕ) → mem j (word t i) ≡ true → (h .boxes j) .state ≡ 2 → SetsOnly ((h .wires i j) .way)
+  late-none i j v e =
+      let E : Ended i j = ended i j v e in
+      sets-only ((h .wires i j) .way) (λ k x. E .late k (says-r k (E .dropped) ((h .wires i j) .way) x))
 
   -- ---- how often a list has gone to a box
 

@@ -18,7 +18,7 @@ use Rattle.sets.specs.Loops.{by-bool, length-words, getD-words}
 use Rattle.sets.specs.Tables.{eqb-eq, eq-eqb, ne-eqb, eqb-ne}
 use Rattle.hops.specs.Hops.{hops-gap, hops-step, hops-near, hops-zero, hops-self}
 use Rattle.hops.specs.Rest.{in-layer, layer-in, layer-none, From, from-ok, from-member, from-group, far-lt, far-most, far-past}
-use Rattle.order.specs.Rounds.{setOf-is, and-true, not-false, not-true, inCut, inCut-is, heard, heard-is, heardTo, taken-group, link-lt, no-link}
+use Rattle.order.specs.Rounds.{setOf-is, and-true, not-false, not-true, inCut, inCut-is, heard, heard-is, heardTo, taken-group, link-lt, no-link, not-from, zero-is}
 use Rattle.order.specs.Invariant.{Tables, Flow, Spent, Half, Awake, Stopped, Sleeps, Seat, sleeps, wakes, rests, spoken, SeatOf, ways, Good, restHop}
 use Rattle.order.specs.Send.{lt-ltb, ltb-lt, ge-ltb, ltb-ge}
 
@@ -57,6 +57,14 @@ module _ (w : ℕ) (t : List ℕ) where
   seat-stopped j n past queue rest b (sleeps p) y z = absurd (y (ap (λ (x : Box). x .state) (p .blank)))
   seat-stopped j n past queue rest b (wakes p) y z = absurd (z (p .half .state))
   seat-stopped j n past queue rest b (rests p) y z = p
+
+  pub three-states : (h : Hub) (i : ℕ) → i < w → Good w t h → ((h .boxes i) .state ≡ 0) ⊎ (((h .boxes i) .state ≡ 1) ⊎ ((h .boxes i) .state ≡ 2))
+  three-states h i hi G = go _ _ _ _ (h .boxes i) (G .seats i hi)
+    where
+      go : (n : ℕ → ℕ) (past queue rest : ℕ → List Msg) (b : Box) → Seat w t i n past queue rest b → (b .state ≡ 0) ⊎ ((b .state ≡ 1) ⊎ (b .state ≡ 2))
+      go n past queue rest b (sleeps p) = inl (ap (λ (x : Box). x .state) (p .blank))
+      go n past queue rest b (wakes p) = inr (inl (p .half .state))
+      go n past queue rest b (rests p) = inr (inr (p .state))
 
   pub sleeps-at : (h : Hub) (i : ℕ) → i < w → Good w t h → (h .boxes i) .state ≡ 0
       → Sleeps w t i (λ k. spoken (h .boxes k)) (λ k. (h .wires k i) .taken) (λ k. (h .wires k i) .queue) (ways w t h i) (h .boxes i)
@@ -175,3 +183,15 @@ module _ (w : ℕ) (t : List ℕ) where
         λ m. let (a, b) = and-both _ _ (sym e ∙ m) in (a, eqb-ne _ _ (not-true _ b)),
         λ z. e ∙ and-true _ _ (z .0) (not-false _ (ne-eqb _ _ (z .1))),
       )
+
+  -- "Both sets are zero for a J that is no neighbour."
+  pub in-off : (s : Table w t) (i j : ℕ) → j < w → mem j (word t i) ≡ false → word ((atRest w t i) .inSpt) j ≡ 0
+  unfolding atRest inAtRest
+  in-off s i j hj v =
+      getD-words w (inAtRest w t i) j hj
+      ∙ same (setOf-is w (λ k. eqb (from w t i k) j) (λ k. from w t i k ≡ j) (λ k e. eqb-eq _ _ e) (λ k e. eq-eqb _ _ e)) (zero-is w)
+      (λ k hk e. not-from w t s i j k hj v e) (λ k hk e. absurd e)
+
+  pub not-off : (i j : ℕ) → j < w → mem j (word t i) ≡ false → word ((atRest w t i) .notSpt) j ≡ 0
+  unfolding atRest notAtRest
+  not-off i j hj v = getD-words w (notAtRest w t i) j hj ∙ rw v

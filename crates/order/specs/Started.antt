@@ -140,7 +140,7 @@ module _ (w : ℕ) (t : List ℕ) (s : Table w t) (room : ℕ) (hr : w + 1 ≤ r
       (λ k hk m. drained-up w room t x f (sleeping w) k hk m) e
 
 -- the same started groups, the same end
-module _ (w : ℕ) (t : List ℕ) (s : Table w t) (room : ℕ) (hr : w + 1 ≤ room) where
+module _ (w : ℕ) (t : List ℕ) where
   sent-same : (x y : ℕ) → ((i : ℕ) → i < w → reached w t x i ≡ reached w t y i) → sentAtRest w t x ≡ sentAtRest w t y
   unfolding sentAtRest
   sent-same x y e = ap₂ _+_ (sum-same w _ _ (λ i hi. rw (e i hi))) (sum-same w _ _ (λ i hi. rw (e i hi)))
