@@ -1,26 +1,25 @@
 -- A sleeping box starts: its invariant, and that it has sent the first NOTSPT on each wire. Assumes nothing.
-use Prim.Native.Nat.{ℕ, zero, suc, _+_, _-_, _^_, _≤_, _<_}
-use mathlib.Core.Path.{_≡_, refl, sym, ap, ap₂, _∙_, subst}
-use mathlib.Core.Bool.{Bool, true, false, cond, true≢false, false≢true}
-use mathlib.Core.List.{List, [], _∷_, _++_, append-assoc, append-nil}
-use mathlib.Core.Logic.{_⊎_, inl, inr, ⊎-elim, _≢_}
+use Prim.Native.Nat.{ℕ, _^_, _<_}
+use mathlib.Core.Path.{_≡_, refl, sym, ap, ap₂, _∙_}
+use mathlib.Core.Bool.{Bool, true, false, cond}
+use mathlib.Core.List.{List, [], _++_, append-nil}
+use mathlib.Core.Logic.{_≢_}
 use native.Mathlib.Omega.{arith}
-use native.Mathlib.Decide.{decLe, decLt, ℕ-discrete}
+use native.Mathlib.Decide.{decLt, ℕ-discrete}
 use lib.Dec.{eqb}
-use lib.ListN.{length, getD, set, replicate, length-set, length-replicate, getD-replicate, List·getD-eq-default}
+use lib.ListN.{length, set, replicate, length-set, length-replicate, getD-replicate, List·getD-eq-default}
 use lib.Seq.{getD-set-same, getD-set-other}
 use Rattle.rules.specs.Sets.{mem, word}
-use Rattle.rules.specs.Box.{Msg, notspt, neighbors, Box, Desk, asleep, started, startSends}
+use Rattle.rules.specs.Box.{Msg, neighbors, Box, Desk, started, startSends}
 use Rattle.rules.specs.Rest.{Table, hops}
-use Rattle.sets.specs.Mem.{mem-empty}
 use Rattle.sets.specs.Loops.{by-bool, some-member}
-use Rattle.sets.specs.Tables.{eqb-eq, eq-eqb, ne-eqb, eqb-ne}
+use Rattle.sets.specs.Tables.{eqb-eq, eq-eqb, eqb-ne}
 use Rattle.hops.specs.Hops.{hops-self, hops-zero, hops-near}
 use Rattle.order.specs.Rounds.{heardTo, layer-first, in-first, no-link}
-use Rattle.order.specs.Messages.{sets, no-sets, Says}
+use Rattle.order.specs.Messages.{no-sets}
 use Rattle.order.specs.Wire.{wire, wire-none, wire-first}
-use Rattle.order.specs.Invariant.{Tables, Flow, Spent, Half, Awake, Stopped, Sleeps, Seat, sleeps, wakes, rests, spoken}
-use Rattle.order.specs.Save.{used, behind-none}
+use Rattle.order.specs.Invariant.{Tables, Awake, Stopped, Seat, wakes, rests, spoken}
+use Rattle.order.specs.Save.{behind-none}
 use Rattle.order.specs.Work.{Done, spoken-up, spoken-none}
 
 -- an empty table reads 0 everywhere

@@ -1,19 +1,19 @@
 -- The drain: its search finds a message wherever one is under way, and it ends with none under way or with its budget spent. Assumes nothing.
-use Prim.Native.Nat.{ℕ, zero, suc, _+_, _*_, _-_, _^_, _≤_, _<_}
-use mathlib.Core.Path.{_≡_, refl, sym, ap, ap₂, _∙_}
-use mathlib.Core.Bool.{Bool, true, false, cond, true≢false, false≢true}
-use mathlib.Core.List.{List, [], _∷_, _++_}
-use mathlib.Core.Logic.{_⊎_, inl, inr, ⊎-elim, _≢_}
+use Prim.Native.Nat.{ℕ, zero, suc, _+_, _^_, _≤_, _<_}
+use mathlib.Core.Path.{_≡_, refl, _∙_}
+use mathlib.Core.Bool.{true, false}
+use mathlib.Core.List.{List, [], _∷_}
+use mathlib.Core.Logic.{_⊎_, inl, inr, ⊎-elim}
 use native.Mathlib.Omega.{arith}
-use lib.Dec.{eqb, ltb}
+use lib.Dec.{ltb}
 use lib.ListN.{length}
-use Rattle.rules.specs.Sets.{mem, word, sum, any, least}
+use Rattle.rules.specs.Sets.{word, any}
 use Rattle.rules.specs.Box.{Msg}
 use Rattle.rules.specs.Hub.{Hub, underWay, holds, sender, receiver, deliver, drain}
 use Rattle.rules.specs.Rest.{Table, enough}
-use Rattle.sets.specs.Loops.{by-bool, any-in, any-out, least-le, least-hit, least-ok, sum-same, sum-none}
-use Rattle.order.specs.Invariant.{Good, Counted, Sound}
-use Rattle.order.specs.Send.{lt-ltb, ltb-lt, ge-ltb, ltb-ge}
+use Rattle.sets.specs.Loops.{by-bool, any-in, any-out, least-hit, least-ok, sum-same, sum-none}
+use Rattle.order.specs.Invariant.{Sound}
+use Rattle.order.specs.Send.{ltb-lt, ltb-ge}
 use Rattle.order.specs.Moves.{deliver-sound}
 use Rattle.order.specs.Sent.{sent-low}
 use Rattle.order.specs.Kept.{deliver-moved}

@@ -1,13 +1,12 @@
 -- With nothing under way: every box of a group in which a box is not asleep has stopped. Assumes nothing.
-use Prim.Native.Nat.{ℕ, zero, suc, _+_, _-_, _≤_, _<_}
-use mathlib.Core.Path.{_≡_, refl, sym, ap, ap₂, _∙_, subst}
-use mathlib.Core.Bool.{Bool, true, false, true≢false, false≢true}
+use Prim.Native.Nat.{ℕ, zero, suc, _+_, _≤_, _<_}
+use mathlib.Core.Path.{_≡_, refl, sym, ap, ap₂, _∙_}
+use mathlib.Core.Bool.{true}
 use mathlib.Core.List.{List, [], _∷_, _++_, append-assoc}
-use mathlib.Core.Logic.{_⊎_, inl, inr, ⊎-elim, _≢_}
+use mathlib.Core.Logic.{_≢_}
 use native.Mathlib.Omega.{arith}
-use native.Mathlib.Decide.{decLe, decLt, ℕ-discrete}
 use lib.ListN.{length, length-append}
-use Rattle.rules.specs.Sets.{mem, word, sum}
+use Rattle.rules.specs.Sets.{mem, word}
 use Rattle.rules.specs.Box.{Msg, Box}
 use Rattle.rules.specs.Hub.{Hub, Wire, underWay}
 use Rattle.rules.specs.Rest.{Table, hops, farthest}
@@ -18,7 +17,7 @@ use Rattle.order.specs.Rounds.{link-lt, links-lt}
 use Rattle.order.specs.Messages.{sets, sets-append, no-sets}
 use Rattle.order.specs.Sums.{sum-zero}
 use Rattle.order.specs.Wire.{wire, wire-none, wire-sets}
-use Rattle.order.specs.Invariant.{Flow, Spent, Half, Awake, Stopped, Sleeps, Seat, sleeps, wakes, rests, spoken, SeatOf, ways, Good}
+use Rattle.order.specs.Invariant.{Flow, Awake, Stopped, Sleeps, Seat, sleeps, wakes, rests, spoken, ways, Good}
 use Rattle.order.specs.Work.{spoken-up, spoken-none}
 use Rattle.order.specs.Rest.{sleeps-at, wakes-at, stopped-at, rest-linked}
 

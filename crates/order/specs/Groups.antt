@@ -1,23 +1,21 @@
 -- Groups: boxes that links lead to from one another; a sum over boxes, gathered by groups; groups of a sheet with fewer boxes than the hub is wide. Assumes nothing.
-use Prim.Native.Nat.{ℕ, zero, suc, _+_, _*_, _-_, _^_, _≤_, _<_}
-use mathlib.Core.Path.{_≡_, refl, sym, ap, ap₂, _∙_, subst}
-use mathlib.Core.Bool.{Bool, true, false, not, _&&_, _||_, cond, true≢false, false≢true}
-use mathlib.Core.List.{List, [], _∷_}
-use mathlib.Core.Logic.{_⊎_, inl, inr, ⊎-elim, _≢_}
+use Prim.Native.Nat.{ℕ, zero, suc, _*_, _-_, _^_, _≤_, _<_}
+use mathlib.Core.Path.{_≡_, refl, sym, ap, ap₂, _∙_}
+use mathlib.Core.Bool.{Bool, true, false, _&&_, cond}
+use mathlib.Core.List.{List}
 use native.Mathlib.Omega.{arith}
-use native.Mathlib.Decide.{decLe, decLt, ℕ-discrete}
 use lib.Dec.{eqb, ltb}
-use Rattle.rules.specs.Sets.{mem, word, bit, least, any, count, sum}
+use Rattle.rules.specs.Sets.{mem, word, least, count, sum}
 use Rattle.rules.specs.Rest.{Table, hops, together, farthest, reached, isFirst}
 use Rattle.sets.specs.Mem.{in-lt, and-both}
-use Rattle.sets.specs.Loops.{by-bool, least-le, least-hit, least-ok, any-in, any-out, count-le, count-more, count-same, sum-same, sum-none}
-use Rattle.sets.specs.Tables.{eqb-eq, eq-eqb, ne-eqb, eqb-ne}
+use Rattle.sets.specs.Loops.{by-bool, least-hit, any-in, any-out, count-le, count-more, sum-same, sum-none}
+use Rattle.sets.specs.Tables.{eqb-eq, eq-eqb, ne-eqb}
 use Rattle.hops.specs.Hops.{hops-gap, hops-self, hops-zero, hops-sym, hops-step, hops-near, hops-between}
 use Rattle.hops.specs.Rest.{far-lt, far-there}
-use Rattle.order.specs.Rounds.{link-lt, links-lt, and-true}
-use Rattle.order.specs.Send.{lt-ltb, ltb-lt, ge-ltb, ltb-ge}
+use Rattle.order.specs.Rounds.{link-lt, and-true}
+use Rattle.order.specs.Send.{lt-ltb, ltb-lt, ge-ltb}
 use Rattle.order.specs.Sums.{sum-one, sum-swap, sum-cond}
-use Rattle.order.specs.Rest.{together-lt, lt-together, together-not}
+use Rattle.order.specs.Rest.{together-lt, lt-together}
 
 bool-ext : (x y : Bool) → (x ≡ true → y ≡ true) → (y ≡ true → x ≡ true) → x ≡ y
 bool-ext true y f g = sym (f refl)

@@ -3,14 +3,14 @@
 -- how many NOTSPT i has sent on each of its links. All that was ever sent from i to j is then `wire w t i j (n i)`: a function of the sender's HOP alone.
 use Prim.Native.Nat.{ℕ, zero, suc, _+_, _≤_, _<_}
 use mathlib.Core.Path.{_≡_}
-use mathlib.Core.Bool.{Bool, true, false, cond}
-use mathlib.Core.List.{List, [], _∷_, _++_}
+use mathlib.Core.Bool.{true, false, cond}
+use mathlib.Core.List.{List, [], _++_}
 use mathlib.Core.Logic.{_≢_}
 use lib.Dec.{eqb}
 use lib.ListN.{length}
 use Rattle.rules.specs.Sets.{mem, word, sum}
 use Rattle.rules.specs.Box.{Msg, Box, asleep, behind}
-use Rattle.rules.specs.Hub.{Hub, Wire, noWire, underWay}
+use Rattle.rules.specs.Hub.{Hub, noWire, underWay}
 use Rattle.rules.specs.Rest.{hops, layer, farthest}
 use Rattle.order.specs.Rounds.{inCut, heardTo}
 use Rattle.order.specs.Messages.{sets, Says}

@@ -1,19 +1,19 @@
 -- What no step changes, on any hub: a settled box alone is rewritten, a box that does not sleep never sleeps again, and each message taken off a wire counts.
 -- Assumes nothing.
-use Prim.Native.Nat.{ℕ, zero, suc, _+_, _-_, _≤_, _<_}
-use mathlib.Core.Path.{_≡_, refl, sym, ap, ap₂, _∙_}
-use mathlib.Core.Bool.{Bool, true, false, not, _&&_, _||_, cond, true≢false, false≢true}
-use mathlib.Core.List.{List, [], _∷_, _++_}
+use Prim.Native.Nat.{ℕ, zero, suc, _+_, _<_}
+use mathlib.Core.Path.{_≡_, refl, sym, ap, _∙_}
+use mathlib.Core.Bool.{Bool, true, false, _&&_, _||_, cond, true≢false, false≢true}
+use mathlib.Core.List.{List, [], _∷_}
 use mathlib.Core.Logic.{_⊎_, inl, inr, ⊎-elim, _≢_}
 use native.Mathlib.Omega.{arith}
 use native.Mathlib.Decide.{ℕ-discrete}
 use lib.Dec.{eqb, ltb}
 use lib.ListN.{length}
-use Rattle.rules.specs.Sets.{mem, word, upd, forEach}
-use Rattle.rules.specs.Box.{Msg, Box, Desk, started, save, stops, takeSets, nextHop, round, allSets, work, receive}
+use Rattle.rules.specs.Sets.{mem, word, upd}
+use Rattle.rules.specs.Box.{Msg, Box, Desk, started, save, stops, nextHop, round, allSets, work, receive}
 use Rattle.rules.specs.Hub.{Hub, send, sendList, sendAll, settle, start, popped, handOver, deliver, act, run, drain, startAll, queuesOf, sender, receiver}
 use Rattle.sets.specs.Loops.{by-bool, forEach-keeps}
-use Rattle.sets.specs.Tables.{eqb-eq, eq-eqb, ne-eqb, upd-same, upd-other}
+use Rattle.sets.specs.Tables.{eqb-eq, eq-eqb, upd-same, upd-other}
 use Rattle.order.specs.Terms.{asks}
 
 -- ---- sending touches no box and moves nothing

@@ -1,27 +1,25 @@
 -- The wire lists at any moment, and how often each list has gone to a box: once from the neighbour that it is taken from, and never else. Assumes nothing.
-use Prim.Native.Nat.{ℕ, zero, suc, _+_, _-_, _≤_, _<_}
-use mathlib.Core.Path.{_≡_, refl, sym, ap, ap₂, _∙_, subst}
-use mathlib.Core.Bool.{Bool, true, false, true≢false, false≢true}
-use mathlib.Core.List.{List, [], _∷_, _++_, append-assoc, append-nil}
-use mathlib.Core.Logic.{_⊎_, inl, inr, ⊎-elim, _≢_}
+use Prim.Native.Nat.{ℕ, _+_, _-_, _≤_, _<_}
+use mathlib.Core.Path.{_≡_, refl, sym, ap, ap₂, _∙_}
+use mathlib.Core.Bool.{true}
+use mathlib.Core.List.{List, [], _∷_, _++_, append-assoc}
+use mathlib.Core.Logic.{_⊎_, inl, ⊎-elim, _≢_}
 use native.Mathlib.Omega.{arith}
-use native.Mathlib.Decide.{decLe, decLt, ℕ-discrete}
-use lib.ListN.{length}
+use native.Mathlib.Decide.{decLt, ℕ-discrete}
 use Rattle.rules.specs.Sets.{mem, word, sum}
 use Rattle.rules.specs.Box.{Msg, notspt, neighbors, Box}
 use Rattle.rules.specs.Hub.{Hub, Wire}
 use Rattle.rules.specs.Rest.{Table, hops, farthest, from, wireList}
 use Rattle.sets.specs.Loops.{by-bool, sum-same, sum-none}
-use Rattle.hops.specs.Hops.{hops-self, hops-zero}
 use Rattle.hops.specs.Rest.{from-ok, from-member, from-group, far-most}
 use Rattle.order.specs.Terms.{SetsOnly, handed, tally}
 use Rattle.order.specs.Rounds.{link-lt, links-lt, taken-near, taken-group}
 use Rattle.order.specs.Messages.{sets, sets-append, Says, says-l, says-r, says-where, tally-append, tally-none, no-tally}
 use Rattle.order.specs.Sums.{sum-one, sum-le}
 use Rattle.order.specs.Wire.{wire, wire-sets, wire-begins, wire-list, list-place, tally-other, tally-one, tally-le}
-use Rattle.order.specs.Invariant.{Flow, Spent, Half, Awake, Stopped, Sleeps, Seat, sleeps, wakes, rests, spoken, SeatOf, ways, Good, restHop}
+use Rattle.order.specs.Invariant.{Spent, Stopped, Seat, sleeps, wakes, rests, spoken, ways, Good, restHop}
 use Rattle.order.specs.Work.{spoken-up, spoken-none}
-use Rattle.order.specs.Rest.{sleeps-at, wakes-at, stopped-at, rest-linked}
+use Rattle.order.specs.Rest.{stopped-at, rest-linked}
 
 sets-only : (l : List Msg) → ((k : ℕ) → Says k l → ⊥) → SetsOnly l
 sets-only [] h = tt

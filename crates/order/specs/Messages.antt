@@ -1,18 +1,17 @@
 -- Runs of messages: how many NOTSPT stand in one, whose lists, how often; a set's members as a run of lists. No hops. Assumes nothing.
-use Prim.Native.Nat.{ℕ, zero, suc, _+_, _-_, _^_, _≤_, _<_}
-use mathlib.Core.Path.{_≡_, refl, sym, ap, ap₂, _∙_, subst}
-use mathlib.Core.Bool.{Bool, true, false, not, _&&_, _||_, cond, true≢false, false≢true}
-use mathlib.Core.List.{List, [], _∷_, _++_, map, append-assoc, append-nil}
-use mathlib.Core.Logic.{_⊎_, inl, inr, ⊎-elim, _≢_}
+use Prim.Native.Nat.{ℕ, zero, suc, _+_, _≤_, _<_}
+use mathlib.Core.Path.{_≡_, refl, sym, ap, ap₂, _∙_}
+use mathlib.Core.Bool.{true, false, true≢false}
+use mathlib.Core.List.{List, [], _∷_, _++_, map, append-nil}
+use mathlib.Core.Logic.{_⊎_, inl, inr, ⊎-elim}
 use native.Mathlib.Omega.{arith}
-use native.Mathlib.Decide.{decLe, decLt, ℕ-discrete}
+use native.Mathlib.Decide.{ℕ-discrete}
 use lib.Dec.{eqb}
-use lib.ListN.{length}
-use Rattle.rules.specs.Sets.{mem, bit, sum, each, members}
+use Rattle.rules.specs.Sets.{mem, bit, each, members}
 use Rattle.rules.specs.Box.{Msg, notspt, neighbors}
 use Rattle.sets.specs.Mem.{mem-empty}
 use Rattle.sets.specs.Loops.{by-bool}
-use Rattle.sets.specs.Tables.{eqb-eq, eq-eqb, ne-eqb}
+use Rattle.sets.specs.Tables.{eq-eqb, ne-eqb}
 use Rattle.order.specs.Terms.{tally}
 use Rattle.order.specs.Rounds.{lt-suc}
 

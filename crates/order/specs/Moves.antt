@@ -1,27 +1,27 @@
 -- Starts and deliveries keep the invariant. Assumes nothing.
-use Prim.Native.Nat.{ℕ, zero, suc, _+_, _-_, _≤_, _<_}
+use Prim.Native.Nat.{ℕ, suc, _+_, _≤_, _<_}
 use mathlib.Core.Path.{_≡_, refl, sym, ap, ap₂, _∙_, subst, subst₂, fun-ext}
-use mathlib.Core.Bool.{Bool, true, false, cond, true≢false, false≢true}
-use mathlib.Core.List.{List, [], _∷_, _++_, append-assoc, append-nil}
+use mathlib.Core.Bool.{true, true≢false}
+use mathlib.Core.List.{List, [], _∷_, append-nil}
 use mathlib.Core.Logic.{_⊎_, inl, inr, ⊎-elim, _≢_}
 use native.Mathlib.Omega.{arith}
-use native.Mathlib.Decide.{decLe, decLt, ℕ-discrete}
+use native.Mathlib.Decide.{ℕ-discrete}
 use lib.Dec.{eqb}
-use lib.ListN.{length, length-append}
-use Rattle.rules.specs.Sets.{mem, word, sum, upd}
-use Rattle.rules.specs.Box.{Msg, Box, Desk, asleep, started, startSends, receive}
-use Rattle.rules.specs.Hub.{Hub, Wire, noWire, sleeping, settle, start, popped, handOver, deliver, queuesOf, underWay}
-use Rattle.rules.specs.Rest.{Table, hops}
-use Rattle.sets.specs.Loops.{by-bool, sum-same, sum-none}
-use Rattle.sets.specs.Tables.{eqb-eq, eq-eqb, ne-eqb, eqb-ne, upd-same, upd-other}
+use lib.ListN.{length}
+use Rattle.rules.specs.Sets.{mem, word, sum}
+use Rattle.rules.specs.Box.{Msg, Box, Desk, started, startSends, receive}
+use Rattle.rules.specs.Hub.{Hub, Wire, settle, start, popped, handOver, deliver, queuesOf, underWay}
+use Rattle.rules.specs.Rest.{Table}
+use Rattle.sets.specs.Loops.{by-bool, sum-same}
+use Rattle.sets.specs.Tables.{eq-eqb, ne-eqb, upd-same, upd-other}
 use Rattle.order.specs.Rounds.{link-lt, links-lt, link-ne}
 use Rattle.order.specs.Sums.{sum-more}
-use Rattle.order.specs.Wire.{wire, wire-none}
-use Rattle.order.specs.Invariant.{Flow, Spent, Half, Awake, Stopped, Sleeps, Seat, sleeps, wakes, rests, spoken, SeatOf, ways, Others, Held, Good, logged, Counted, Sound}
-use Rattle.order.specs.Work.{Done, spoken-up, spoken-none, received}
-use Rattle.order.specs.Begin.{first, begins, starts-up}
-use Rattle.order.specs.Send.{left, sendsOf, settled}
-use Rattle.order.specs.Settle.{Grown, same-grown, grown, settle-settled, settle-held, settled-counted}
+use Rattle.order.specs.Wire.{wire}
+use Rattle.order.specs.Invariant.{Seat, sleeps, wakes, rests, spoken, SeatOf, ways, Others, Held, Good, Counted, Sound}
+use Rattle.order.specs.Work.{Done, received}
+use Rattle.order.specs.Begin.{begins, starts-up}
+use Rattle.order.specs.Send.{left, settled}
+use Rattle.order.specs.Settle.{same-grown, grown, settle-settled, settle-held, settled-counted}
 
 -- ---- what a settled box leaves as it was
 

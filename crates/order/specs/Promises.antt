@@ -1,22 +1,22 @@
 -- Demands 2 and 3: what is promised of every hub that starts and deliveries lead to, by a list, by the drain or one by one, in any order.
 -- For any number of boxes w, any link table of w boxes and any room of w + 1 or more. Each promise stands under the sentence of document 01 that it puts.
 -- The words are those of the rules, and of Terms. Assumes nothing.
-use Prim.Native.Nat.{ℕ, zero, suc, _+_, _-_, _^_, _≤_, _<_}
-use mathlib.Core.Path.{_≡_, refl, sym, ap, _∙_}
+use Prim.Native.Nat.{ℕ, _+_, _^_, _≤_, _<_}
+use mathlib.Core.Path.{_≡_, refl, sym, _∙_}
 use mathlib.Core.Bool.{Bool, true, false, cond}
-use mathlib.Core.List.{List, [], _∷_, _++_}
+use mathlib.Core.List.{List, _++_}
 use mathlib.Core.Logic.{_⊎_, inl, inr, ⊎-elim, _≢_, _↔_}
 use native.Mathlib.Omega.{arith}
 use native.Mathlib.Decide.{ℕ-discrete}
 use lib.ListN.{length}
 use Rattle.rules.specs.Sets.{mem, word, sum}
 use Rattle.rules.specs.Outcome.{Outcome, accepted}
-use Rattle.rules.specs.Box.{Msg, Box, asleep}
-use Rattle.rules.specs.Hub.{Hub, Wire, noWire, sleeping, run, drain, startAll, underWay}
+use Rattle.rules.specs.Box.{Msg, asleep}
+use Rattle.rules.specs.Hub.{Hub, noWire, sleeping, run, drain, startAll, underWay}
 use Rattle.rules.specs.Calls.{checkPairs}
-use Rattle.rules.specs.Rest.{Table, Least, hops, together, layer, farthest, from, atRest, wireList, reached, sentAtRest, enough}
+use Rattle.rules.specs.Rest.{Table, Least, hops, together, from, atRest, wireList, reached, enough}
 use Rattle.sets.specs.Loops.{by-bool}
-use Rattle.hops.specs.Hops.{hops-least, least-hops, hops-gap}
+use Rattle.hops.specs.Hops.{hops-least, least-hops}
 use Rattle.hops.specs.Rest.{From, from-ok, from-member, from-group}
 use Rattle.order.specs.Terms.{Reached, begin, Names, startsOf, handed, SetsOnly, Final, Alike}
 use Rattle.order.specs.Rounds.{link-lt, links-lt}

@@ -1,24 +1,23 @@
 -- Every hub that starts and deliveries lead to from a sleeping one, by a list, by the drain or one by one: the invariant holds of it. Assumes nothing.
-use Prim.Native.Nat.{ℕ, zero, suc, _+_, _-_, _≤_, _<_}
-use mathlib.Core.Path.{_≡_, refl, sym, ap, ap₂, _∙_}
-use mathlib.Core.Bool.{Bool, true, false, not, _&&_, _||_, cond, true≢false, false≢true}
-use mathlib.Core.List.{List, [], _∷_, _++_}
-use mathlib.Core.Logic.{_⊎_, inl, inr, ⊎-elim, _≢_}
+use Prim.Native.Nat.{ℕ, zero, suc, _+_, _≤_, _<_}
+use mathlib.Core.Path.{_≡_, refl, sym, _∙_}
+use mathlib.Core.Bool.{Bool, true, false, not, _&&_, _||_, true≢false}
+use mathlib.Core.List.{List, [], _∷_}
+use mathlib.Core.Logic.{_⊎_, inl, inr, ⊎-elim}
 use native.Mathlib.Omega.{arith}
-use native.Mathlib.Decide.{decLe, decLt, ℕ-discrete}
-use lib.Dec.{eqb, leb, ltb, leb→le, le→leb}
-use Rattle.rules.specs.Sets.{mem, word, setOf, forEach, sum}
-use Rattle.rules.specs.Outcome.{Outcome, refused, accepted, refuse}
-use Rattle.rules.specs.Hub.{Hub, sleeping, start, deliver, act, run, drain, startAll, sender, receiver, underWay}
+use native.Mathlib.Decide.{decLe}
+use lib.Dec.{eqb, leb, ltb, le→leb}
+use Rattle.rules.specs.Sets.{mem, word}
+use Rattle.rules.specs.Outcome.{Outcome, accepted, refuse}
+use Rattle.rules.specs.Hub.{Hub, sleeping, start, act, run, drain, startAll, sender, receiver, underWay}
 use Rattle.rules.specs.Calls.{checkPairs}
 use Rattle.rules.specs.Rest.{Table}
-use Rattle.sets.specs.Mem.{T-true, true-T}
+use Rattle.sets.specs.Mem.{true-T}
 use Rattle.sets.specs.Loops.{by-bool, forEach-keeps, sum-same, sum-none}
-use Rattle.sets.specs.Tables.{eqb-eq, eq-eqb, eqb-ne}
+use Rattle.sets.specs.Tables.{eqb-eq}
 use Rattle.order.specs.Terms.{Reached, begin, starts, delivers, Names}
 use Rattle.order.specs.Wire.{wire-none}
-use Rattle.order.specs.Invariant.{Sleeps, Seat, sleeps, spoken, Good, Counted, Sound, logged}
-use Rattle.order.specs.Send.{ltb-lt}
+use Rattle.order.specs.Invariant.{sleeps, spoken, Sound}
 use Rattle.order.specs.Moves.{start-sound, deliver-sound}
 
 -- ---- the list's check

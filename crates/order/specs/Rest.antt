@@ -1,26 +1,26 @@
 -- A stopped box's record is the tables at rest, whole; and what those tables say. Assumes nothing.
-use Prim.Native.Nat.{ℕ, zero, suc, _+_, _-_, _^_, _≤_, _<_}
-use mathlib.Core.Path.{_≡_, refl, sym, ap, ap₂, _∙_, subst}
-use mathlib.Core.Bool.{Bool, true, false, not, _&&_, cond, true≢false, false≢true}
-use mathlib.Core.List.{List, [], _∷_, _++_}
-use mathlib.Core.Logic.{_⊎_, inl, inr, ⊎-elim, _≢_, _↔_}
+use Prim.Native.Nat.{ℕ, suc, _+_, _≤_, _<_}
+use mathlib.Core.Path.{_≡_, sym, ap, _∙_}
+use mathlib.Core.Bool.{true, false, not, _&&_, cond, true≢false}
+use mathlib.Core.List.{List}
+use mathlib.Core.Logic.{_⊎_, inl, inr, _≢_, _↔_}
 use native.Mathlib.Omega.{arith}
-use native.Mathlib.Decide.{decLe, decLt, ℕ-discrete}
-use lib.Dec.{eqb, ltb}
+use native.Mathlib.Decide.{decLe, ℕ-discrete}
+use lib.Dec.{eqb}
 use lib.ListN.{length}
 use lib.Seq.{ext-getD}
-use Rattle.rules.specs.Sets.{mem, word, words, setOf}
-use Rattle.rules.specs.Box.{Msg, Box, asleep}
+use Rattle.rules.specs.Sets.{mem, word, words}
+use Rattle.rules.specs.Box.{Msg, Box}
 use Rattle.rules.specs.Hub.{Hub}
 use Rattle.rules.specs.Rest.{Table, hops, together, layer, farthest, from, inAtRest, notAtRest, atRest}
-use Rattle.sets.specs.Mem.{Is, same, and-both, mem-setOf, setOf-lt, in-lt}
+use Rattle.sets.specs.Mem.{same, and-both, mem-setOf}
 use Rattle.sets.specs.Loops.{by-bool, length-words, getD-words}
 use Rattle.sets.specs.Tables.{eqb-eq, eq-eqb, ne-eqb, eqb-ne}
-use Rattle.hops.specs.Hops.{hops-gap, hops-step, hops-near, hops-zero, hops-self}
-use Rattle.hops.specs.Rest.{in-layer, layer-in, layer-none, From, from-ok, from-member, from-group, far-lt, far-most, far-past}
-use Rattle.order.specs.Rounds.{setOf-is, and-true, not-false, not-true, inCut, inCut-is, heard, heard-is, heardTo, taken-group, link-lt, no-link, not-from, zero-is}
-use Rattle.order.specs.Invariant.{Tables, Flow, Spent, Half, Awake, Stopped, Sleeps, Seat, sleeps, wakes, rests, spoken, SeatOf, ways, Good, restHop}
-use Rattle.order.specs.Send.{lt-ltb, ltb-lt, ge-ltb, ltb-ge}
+use Rattle.hops.specs.Hops.{hops-gap, hops-step, hops-near}
+use Rattle.hops.specs.Rest.{in-layer, layer-in, layer-none, far-lt, far-most}
+use Rattle.order.specs.Rounds.{setOf-is, and-true, not-false, not-true, inCut-is, heard, heard-is, heardTo, taken-group, no-link, not-from, zero-is}
+use Rattle.order.specs.Invariant.{Awake, Stopped, Sleeps, Seat, sleeps, wakes, rests, spoken, ways, Good, restHop}
+use Rattle.order.specs.Send.{lt-ltb, ltb-lt}
 
 box-same : (a b : Box) → a .state ≡ b .state → a .hop ≡ b .hop → a .nodes ≡ b .nodes → a .inSpt ≡ b .inSpt → a .notSpt ≡ b .notSpt → a .neighbors ≡ b .neighbors → a ≡ b
 box-same a b p q r s u v = λ i. record { state = p i; hop = q i; nodes = r i; inSpt = s i; notSpt = u i; neighbors = v i }

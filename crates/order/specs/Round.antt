@@ -1,24 +1,23 @@
 -- "All queues have a NOTSPT message at their heads: do a round." The invariant of the box afterwards, stopped or not, and what it has sent. Assumes nothing.
-use Prim.Native.Nat.{ℕ, zero, suc, _+_, _-_, _^_, _≤_, _<_}
-use mathlib.Core.Path.{_≡_, refl, sym, ap, ap₂, _∙_, subst}
+use Prim.Native.Nat.{ℕ, suc, _-_, _≤_, _<_}
+use mathlib.Core.Path.{_≡_, refl, sym, ap, ap₂, _∙_}
 use mathlib.Core.Bool.{Bool, true, false, not, _||_, cond, true≢false, false≢true}
-use mathlib.Core.List.{List, [], _∷_, _++_, map, append-assoc, append-nil}
-use mathlib.Core.Logic.{_⊎_, inl, inr, ⊎-elim, _≢_}
+use mathlib.Core.List.{List, [], _∷_, _++_, map, append-assoc}
+use mathlib.Core.Logic.{⊎-elim}
 use native.Mathlib.Omega.{arith}
-use native.Mathlib.Decide.{decLe, decLt, ℕ-discrete}
-use lib.Dec.{eqb}
+use native.Mathlib.Decide.{decLt, ℕ-discrete}
 use lib.ListN.{length}
 use Rattle.rules.specs.Sets.{mem, without, word, members, all}
 use Rattle.rules.specs.Box.{Msg, notspt, neighbors, Box, Desk, isSet, headSet, tail, allSets, takeSets, before, roundSends, stops, nextHop, round}
-use Rattle.rules.specs.Rest.{Table, hops, layer, farthest, from, saidSet}
-use Rattle.sets.specs.Loops.{by-bool, some-member, all-out, all-not}
-use Rattle.sets.specs.Tables.{eqb-eq, eq-eqb, ne-eqb, eqb-ne}
-use Rattle.hops.specs.Hops.{hops-gap, hops-zero, hops-between}
+use Rattle.rules.specs.Rest.{Table, hops, layer, from, saidSet}
+use Rattle.sets.specs.Loops.{some-member, all-out, all-not}
+use Rattle.sets.specs.Tables.{eqb-eq, ne-eqb, eqb-ne}
+use Rattle.hops.specs.Hops.{hops-gap, hops-between}
 use Rattle.hops.specs.Rest.{in-layer, layer-lt, none-layer, from-ok, from-member, far-lt, far-most, far-there}
 use Rattle.order.specs.Rounds.{inCut, heardTo, said-next, cur-none, cur-all, link-lt}
-use Rattle.order.specs.Messages.{In, sets, sets-append, one-set, Says, says-split, carry-same}
+use Rattle.order.specs.Messages.{In, sets, sets-append, one-set, says-split, carry-same}
 use Rattle.order.specs.Wire.{wire, next, carried, origin-is, At, at, has-come}
-use Rattle.order.specs.Invariant.{Tables, Flow, Spent, Half, Stopped, restHop}
+use Rattle.order.specs.Invariant.{Tables, Flow, Spent, Half, Stopped}
 use Rattle.order.specs.Save.{used}
 use Rattle.order.specs.Take.{Mid, all-taken, lists-out}
 

@@ -1,21 +1,20 @@
 -- What each box is to know and to say, round by round, from hops alone; and what joins and leaves its sets in a round. Assumes nothing.
-use Prim.Native.Nat.{ℕ, zero, suc, _+_, _-_, _^_, _≤_, _<_}
+use Prim.Native.Nat.{ℕ, zero, suc, _+_, _^_, _≤_, _<_}
 use mathlib.Core.Path.{_≡_, refl, sym, ap, _∙_}
-use mathlib.Core.Bool.{Bool, true, false, not, _&&_, true≢false, false≢true}
+use mathlib.Core.Bool.{Bool, true, false, not, _&&_, true≢false}
 use mathlib.Core.Logic.{_⊎_, inl, inr, ⊎-elim, _≢_, Dec·and, Dec·not}
-use mathlib.Core.List.{List, [], _∷_}
+use mathlib.Core.List.{List}
 use native.Mathlib.Omega.{arith}
 use native.Mathlib.Decide.{decLe, decLt, ℕ-discrete}
 use lib.Bits.{bitOr}
 use lib.Dec.{eqb}
 use lib.Pow.{pow-pos, pow-lt}
 use Rattle.rules.specs.Sets.{mem, without, setOf, word}
-use Rattle.rules.specs.Rest.{Table, hops, together, layer, from, inAtRest, notAtRest, saidSet}
+use Rattle.rules.specs.Rest.{Table, hops, layer, from, saidSet}
 use Rattle.sets.specs.Mem.{mem-setOf, setOf-lt, Is, sel, sel-is, same, or-is, without-is, and-both, not-both, in-lt, mem-empty, in-one, one-in}
-use Rattle.sets.specs.Loops.{by-bool}
 use Rattle.sets.specs.Tables.{eqb-eq, eq-eqb, ne-eqb, eqb-ne}
-use Rattle.hops.specs.Hops.{hops-le, hops-gap, hops-self, hops-zero, hops-sym, hops-step, hops-near}
-use Rattle.hops.specs.Rest.{in-layer, layer-in, layer-lt, From, from-ok, from-le, from-member, from-group}
+use Rattle.hops.specs.Hops.{hops-gap, hops-self, hops-zero, hops-step}
+use Rattle.hops.specs.Rest.{in-layer, layer-in, layer-lt, from-ok, from-le, from-member, from-group}
 
 -- ---- small cases
 

@@ -1,21 +1,21 @@
 -- "Some queue has a Neighbors message at its head: take it and save its list." Saving keeps the invariant of the box. Assumes nothing.
-use Prim.Native.Nat.{ℕ, zero, suc, _+_, _-_, _^_, _≤_, _<_}
-use mathlib.Core.Path.{_≡_, refl, sym, ap, ap₂, _∙_, subst}
-use mathlib.Core.Bool.{Bool, true, false, true≢false, false≢true}
-use mathlib.Core.List.{List, [], _∷_, _++_, append-assoc, append-nil}
-use mathlib.Core.Logic.{_⊎_, inl, inr, ⊎-elim, _≢_}
+use Prim.Native.Nat.{ℕ, zero, suc, _≤_, _<_}
+use mathlib.Core.Path.{_≡_, refl, sym, ap, _∙_, subst}
+use mathlib.Core.Bool.{true, false, true≢false}
+use mathlib.Core.List.{List, [], _∷_, _++_, append-assoc}
+use mathlib.Core.Logic.{⊎-elim}
 use native.Mathlib.Omega.{arith}
 use native.Mathlib.Decide.{ℕ-discrete}
-use lib.ListN.{length, getD, set, length-set}
+use lib.ListN.{length, set, length-set}
 use lib.Seq.{getD-set-same, getD-set-other}
 use Rattle.rules.specs.Sets.{mem, word}
-use Rattle.rules.specs.Box.{Msg, notspt, neighbors, Box, Desk, lists, behind, saveLists, saveHeads, save, isSet}
-use Rattle.rules.specs.Rest.{Table, hops}
+use Rattle.rules.specs.Box.{Msg, notspt, neighbors, Desk, lists, behind, saveLists, saveHeads, save, isSet}
+use Rattle.rules.specs.Rest.{Table}
 use Rattle.sets.specs.Loops.{by-bool}
 use Rattle.order.specs.Rounds.{lt-suc, link-lt}
 use Rattle.order.specs.Messages.{sets, sets-append, Says, says-split, Every, every-split}
-use Rattle.order.specs.Wire.{Own, Mate, wire, wire-own}
-use Rattle.order.specs.Invariant.{Tables, Flow, Half, Stopped}
+use Rattle.order.specs.Wire.{Own, Mate, wire-own}
+use Rattle.order.specs.Invariant.{Flow, Half}
 
 -- ---- the lists at the head of a queue
 

@@ -1,19 +1,18 @@
 -- Where there is room for all that a box sends, sending message by message with a check for room each time is sending it all at once. Assumes nothing.
-use Prim.Native.Nat.{ℕ, zero, suc, _+_, _-_, _≤_, _<_}
-use mathlib.Core.Path.{_≡_, refl, sym, ap, ap₂, _∙_, fun-ext}
-use mathlib.Core.Bool.{Bool, true, false, cond, true≢false, false≢true}
+use Prim.Native.Nat.{ℕ, zero, suc, _+_, _≤_, _<_}
+use mathlib.Core.Path.{_≡_, refl, sym, ap, _∙_}
+use mathlib.Core.Bool.{true, false, cond, true≢false}
 use mathlib.Core.List.{List, [], _∷_, _++_, append-assoc, append-nil}
-use mathlib.Core.Logic.{_⊎_, inl, inr, ⊎-elim, _≢_}
 use native.Mathlib.Omega.{arith}
-use native.Mathlib.Decide.{decLe, decLt, ℕ-discrete}
-use lib.Dec.{T, eqb, ltb, ltb→lt, lt→ltb}
+use native.Mathlib.Decide.{decLt, ℕ-discrete}
+use lib.Dec.{eqb, ltb, ltb→lt, lt→ltb}
 use lib.ListN.{length, length-append}
 use Rattle.rules.specs.Sets.{sum, upd}
-use Rattle.rules.specs.Box.{Msg, Box, Desk}
+use Rattle.rules.specs.Box.{Msg, Desk}
 use Rattle.rules.specs.Hub.{Hub, Wire, send, sendList, sendAll, settle}
 use Rattle.sets.specs.Mem.{T-true, true-T}
 use Rattle.sets.specs.Loops.{by-bool}
-use Rattle.sets.specs.Tables.{eqb-eq, eq-eqb, ne-eqb, upd-same, upd-other}
+use Rattle.sets.specs.Tables.{eqb-eq, eq-eqb, ne-eqb}
 
 -- ---- order of numbers as a test
 

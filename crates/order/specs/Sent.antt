@@ -1,26 +1,26 @@
 -- What sent comes to: the NOTSPT of each wire and the lists, at any moment; a bound; and what it is with nothing under way. Assumes nothing.
-use Prim.Native.Nat.{ℕ, zero, suc, _+_, _*_, _-_, _^_, _≤_, _<_}
-use mathlib.Core.Path.{_≡_, refl, sym, ap, ap₂, _∙_, subst}
-use mathlib.Core.Bool.{Bool, true, false, not, _&&_, cond, true≢false, false≢true}
-use mathlib.Core.List.{List, [], _∷_, _++_}
-use mathlib.Core.Logic.{_⊎_, inl, inr, ⊎-elim, _≢_}
+use Prim.Native.Nat.{ℕ, _+_, _*_, _-_, _^_, _≤_, _<_}
+use mathlib.Core.Path.{_≡_, refl, sym, ap, ap₂, _∙_}
+use mathlib.Core.Bool.{Bool, true, false, _&&_, cond}
+use mathlib.Core.List.{List}
+use mathlib.Core.Logic.{inl, inr}
 use native.Mathlib.Omega.{arith}
-use native.Mathlib.Decide.{decLe, decLt, ℕ-discrete}
+use native.Mathlib.Decide.{ℕ-discrete}
 use lib.Dec.{eqb}
 use lib.ListN.{length}
 use Rattle.rules.specs.Sets.{mem, bit, word, count, sum}
 use Rattle.rules.specs.Box.{Msg, Box}
-use Rattle.rules.specs.Hub.{Hub, Wire, underWay}
+use Rattle.rules.specs.Hub.{Hub, Wire}
 use Rattle.rules.specs.Rest.{Table, hops, together, farthest, wiresOf, wireCount, reached, isFirst, sentAtRest, enough}
 use Rattle.sets.specs.Loops.{by-bool, sum-same, sum-none, count-same}
 use Rattle.sets.specs.Tables.{eqb-eq, eq-eqb, ne-eqb, eqb-ne}
 use Rattle.hops.specs.Hops.{hops-zero, hops-near}
 use Rattle.order.specs.Terms.{tally}
-use Rattle.order.specs.Rounds.{link-lt, links-lt}
-use Rattle.order.specs.Messages.{sets, no-sets, no-tally}
+use Rattle.order.specs.Rounds.{links-lt}
+use Rattle.order.specs.Messages.{no-tally}
 use Rattle.order.specs.Sums.{sum-plus, sum-more, sum-swap, sum-le, sum-times, sum-flat, sum-but-one, sum-cut, sum-cond, count-sum}
 use Rattle.order.specs.Wire.{wire, wire-sets, wire-small, length-tally}
-use Rattle.order.specs.Invariant.{Awake, Stopped, Sleeps, Seat, sleeps, wakes, rests, spoken, Good, Counted, restHop, ways}
+use Rattle.order.specs.Invariant.{Seat, sleeps, wakes, rests, spoken, Good, Counted}
 use Rattle.order.specs.Work.{spoken-up, spoken-none}
 use Rattle.order.specs.Rest.{sleeps-at, stopped-at, rest-linked, together-lt, together-not}
 use Rattle.order.specs.End.{Idle}

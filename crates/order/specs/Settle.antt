@@ -1,28 +1,28 @@
 -- A box has acted: the invariant of the hub afterwards, that there was room for all that it sent, and the counts. Assumes nothing.
-use Prim.Native.Nat.{ℕ, zero, suc, _+_, _-_, _≤_, _<_}
-use mathlib.Core.Path.{_≡_, refl, sym, ap, ap₂, _∙_, subst, fun-ext}
-use mathlib.Core.Bool.{Bool, true, false, cond, true≢false, false≢true}
-use mathlib.Core.List.{List, [], _∷_, _++_, append-assoc, append-nil}
-use mathlib.Core.Logic.{_⊎_, inl, inr, ⊎-elim, _≢_}
+use Prim.Native.Nat.{ℕ, suc, _+_, _≤_, _<_}
+use mathlib.Core.Path.{_≡_, refl, sym, ap, ap₂, _∙_}
+use mathlib.Core.Bool.{true, false, true≢false}
+use mathlib.Core.List.{List, [], _++_, append-assoc, append-nil}
+use mathlib.Core.Logic.{_≢_}
 use native.Mathlib.Omega.{arith}
-use native.Mathlib.Decide.{decLe, decLt, ℕ-discrete}
+use native.Mathlib.Decide.{ℕ-discrete}
 use lib.Dec.{eqb}
 use lib.ListN.{length, length-append}
 use Rattle.rules.specs.Sets.{mem, word, sum, upd}
-use Rattle.rules.specs.Box.{Msg, Box, Desk, asleep}
+use Rattle.rules.specs.Box.{Msg, Box, Desk}
 use Rattle.rules.specs.Hub.{Hub, Wire, noWire, settle, underWay}
-use Rattle.rules.specs.Rest.{Table, hops}
+use Rattle.rules.specs.Rest.{Table}
 use Rattle.sets.specs.Mem.{mem-past}
-use Rattle.sets.specs.Loops.{by-bool, sum-same, sum-none}
+use Rattle.sets.specs.Loops.{by-bool, sum-same}
 use Rattle.sets.specs.Tables.{eqb-eq, eq-eqb, ne-eqb, upd-same, upd-other}
-use Rattle.order.specs.Rounds.{link-lt, links-lt, link-ne}
-use Rattle.order.specs.Messages.{sets, sets-append, no-sets}
+use Rattle.order.specs.Rounds.{link-lt, link-ne}
+use Rattle.order.specs.Messages.{sets, sets-append}
 use Rattle.order.specs.Sums.{sum-plus, sum-more}
 use Rattle.order.specs.Wire.{wire, wire-sets, part-le}
-use Rattle.order.specs.Invariant.{Flow, Spent, Half, Awake, Stopped, Sleeps, Seat, sleeps, wakes, rests, spoken, SeatOf, ways, Others, Held, Good, logged, Counted}
+use Rattle.order.specs.Invariant.{Flow, Spent, Seat, sleeps, wakes, rests, spoken, SeatOf, ways, Others, Held, logged, Counted}
 use Rattle.order.specs.Save.{used}
 use Rattle.order.specs.Work.{Done, spoken-up, spoken-none}
-use Rattle.order.specs.Send.{wire-same, longer, plus, left, sendsOf, settled, settle-is}
+use Rattle.order.specs.Send.{wire-same, longer, left, sendsOf, settled, settle-is}
 
 -- ---- a box keeps its place while its neighbours send
 

@@ -1,29 +1,29 @@
 -- Which boxes are not asleep: those of the groups in which a box was started, and no other. The end of a run with nothing under way. Assumes nothing.
-use Prim.Native.Nat.{ℕ, zero, suc, _+_, _-_, _≤_, _<_}
-use mathlib.Core.Path.{_≡_, refl, sym, ap, ap₂, _∙_}
-use mathlib.Core.Bool.{Bool, true, false, not, _&&_, _||_, cond, true≢false, false≢true}
-use mathlib.Core.List.{List, [], _∷_, _++_}
-use mathlib.Core.Logic.{_⊎_, inl, inr, ⊎-elim, _≢_}
+use Prim.Native.Nat.{ℕ, zero, suc, _+_, _≤_, _<_}
+use mathlib.Core.Path.{_≡_, refl, sym, ap₂, _∙_}
+use mathlib.Core.Bool.{Bool, true, false, _&&_, _||_, true≢false}
+use mathlib.Core.List.{List, [], _∷_}
+use mathlib.Core.Logic.{_≢_}
 use native.Mathlib.Omega.{arith}
-use native.Mathlib.Decide.{decLe, decLt, ℕ-discrete}
+use native.Mathlib.Decide.{ℕ-discrete}
 use lib.Dec.{eqb, ltb}
-use Rattle.rules.specs.Sets.{mem, word, upd, forEach, count, sum}
-use Rattle.rules.specs.Box.{Msg, Box, Desk, asleep}
+use Rattle.rules.specs.Sets.{mem, word}
+use Rattle.rules.specs.Box.{Msg, Desk}
 use Rattle.rules.specs.Hub.{Hub, sleeping, settle, start, popped, handOver, deliver, act, run, drain, startAll, sender, receiver, underWay}
-use Rattle.rules.specs.Rest.{Table, hops, together, reached, atRest, sentAtRest}
-use Rattle.sets.specs.Mem.{Is, in-lt}
+use Rattle.rules.specs.Rest.{Table, together, reached, sentAtRest}
+use Rattle.sets.specs.Mem.{Is}
 use Rattle.sets.specs.Loops.{by-bool, forEach-keeps, sum-same}
-use Rattle.sets.specs.Tables.{eqb-eq, eq-eqb, upd-same, upd-other}
+use Rattle.sets.specs.Tables.{eq-eqb, upd-other}
 use Rattle.order.specs.Terms.{Names, asks, startsOf, Final, Alike}
 use Rattle.order.specs.Rounds.{setOf-is, link-lt, links-lt}
-use Rattle.order.specs.Invariant.{Good, Counted, Sound}
+use Rattle.order.specs.Invariant.{Sound}
 use Rattle.order.specs.Moves.{start-sound, deliver-sound, full-link}
 use Rattle.order.specs.Rest.{at-rest, sleeps-at, together-lt, lt-together}
 use Rattle.order.specs.End.{Idle, under-idle, group-stopped, sender-up}
-use Rattle.order.specs.Groups.{self-together, together-sym, together-trans, reached-in, reached-out}
+use Rattle.order.specs.Groups.{self-together, together-trans, reached-in, reached-out}
 use Rattle.order.specs.Sent.{sent-rest}
 use Rattle.order.specs.Kept.{settle-boxes, asked-up, drained-up}
-use Rattle.hops.specs.Hops.{hops-gap, hops-step, hops-self, hops-sym}
+use Rattle.hops.specs.Hops.{hops-gap, hops-step, hops-self}
 
 -- the set of started boxes holds what the list starts
 pub starts-is : (w : ℕ) (l : List ℕ) → Is w (startsOf w l) (λ k. asks k l ≡ true)

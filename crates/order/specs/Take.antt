@@ -1,21 +1,21 @@
 -- "Take one from each link, ascending by neighbour": from the tables cut at HOP to those cut at HOP + 1, if each link's set is the one that it should be.
 -- Assumes nothing.
-use Prim.Native.Nat.{ℕ, zero, suc, _+_, _-_, _^_, _≤_, _<_}
-use mathlib.Core.Path.{_≡_, refl, sym, ap, ap₂, _∙_, subst}
-use mathlib.Core.Bool.{Bool, true, false, true≢false, false≢true}
-use mathlib.Core.List.{List, [], _∷_, _++_}
-use mathlib.Core.Logic.{_⊎_, inl, inr, ⊎-elim, _≢_}
+use Prim.Native.Nat.{ℕ, zero, suc, _≤_, _<_}
+use mathlib.Core.Path.{_≡_, sym, ap, ap₂, _∙_}
+use mathlib.Core.Bool.{true, false}
+use mathlib.Core.List.{List}
+use mathlib.Core.Logic.{_⊎_, inl, inr, ⊎-elim}
 use native.Mathlib.Omega.{arith}
-use native.Mathlib.Decide.{decLe, decLt, ℕ-discrete}
+use native.Mathlib.Decide.{decLt, ℕ-discrete}
 use lib.Bits.{bitOr}
 use lib.ListN.{length, List·getD-eq-default}
-use Rattle.rules.specs.Sets.{mem, without, word, joinAt, union, forEach}
-use Rattle.rules.specs.Box.{Msg, Box, takeSet, takeSets, before}
+use Rattle.rules.specs.Sets.{mem, without, word, joinAt, union}
+use Rattle.rules.specs.Box.{Box, takeSet, takeSets, before}
 use Rattle.rules.specs.Rest.{Table, hops, layer, from, saidSet}
 use Rattle.sets.specs.Mem.{Is, same, without-is, not-both}
 use Rattle.sets.specs.Loops.{forEach-keeps}
 use Rattle.sets.specs.Tables.{joinAt-length, joinAt-same, joinAt-other, in-union, union-in, union-lt}
-use Rattle.order.specs.Rounds.{le-suc, zero-is, inCut, inCut-is, curAt, fresh, heard, heard-is, heardTo, cur-step, in-step, heard-more, in-skip, cur-skip, new-is, passed-next, cur-far, link-lt}
+use Rattle.order.specs.Rounds.{le-suc, zero-is, inCut, inCut-is, curAt, fresh, heard, heard-is, heardTo, cur-step, in-step, heard-more, in-skip, cur-skip, new-is, passed-next, cur-far}
 use Rattle.order.specs.Wire.{carried}
 
 module _ (w : ℕ) (t : List ℕ) where

@@ -1,6 +1,6 @@
 -- The words of the promises: what a reader of Promises has to know beside the rules. Definitions alone.
 -- w is the number of boxes, t the link table, room the most messages that wait on one wire and its receiving queue together.
-use Prim.Native.Nat.{ℕ, zero, suc, _+_, _≤_, _<_}
+use Prim.Native.Nat.{ℕ, _+_, _<_}
 use mathlib.Core.Path.{_≡_}
 use mathlib.Core.Bool.{Bool, true, false, _&&_, _||_}
 use mathlib.Core.List.{List, [], _∷_}

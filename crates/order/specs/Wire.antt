@@ -1,24 +1,24 @@
 -- The fixed list of messages of each wire, read off the links alone: what stands where in it, whose lists, how often. Assumes nothing.
-use Prim.Native.Nat.{ℕ, zero, suc, _+_, _-_, _^_, _≤_, _<_}
+use Prim.Native.Nat.{ℕ, zero, suc, _+_, _^_, _≤_, _<_}
 use mathlib.Core.Path.{_≡_, refl, sym, ap, ap₂, _∙_, subst}
-use mathlib.Core.Bool.{Bool, true, false, true≢false, false≢true}
-use mathlib.Core.List.{List, [], _∷_, _++_, map, append-assoc, append-nil}
-use mathlib.Core.Logic.{_⊎_, inl, inr, ⊎-elim, _≢_}
+use mathlib.Core.Bool.{true, false, false≢true}
+use mathlib.Core.List.{List, [], _∷_, _++_, append-assoc, append-nil}
+use mathlib.Core.Logic.{_≢_}
 use native.Mathlib.Omega.{arith}
-use native.Mathlib.Decide.{decLe, decLt, ℕ-discrete}
+use native.Mathlib.Decide.{decLt, ℕ-discrete}
 use lib.Dec.{eqb}
 use lib.ListN.{length}
 use Rattle.rules.specs.Sets.{mem, bit, word, sum, each, members}
 use Rattle.rules.specs.Box.{Msg, notspt, neighbors}
 use Rattle.rules.specs.Rest.{Table, hops, farthest, from, saidSet, saidLists, wireList}
-use Rattle.sets.specs.Mem.{Is, mem-empty, in-lt, not-both}
+use Rattle.sets.specs.Mem.{mem-empty}
 use Rattle.sets.specs.Loops.{by-bool, sum-none}
 use Rattle.sets.specs.Tables.{eq-eqb, ne-eqb}
 use Rattle.hops.specs.Hops.{hops-self}
 use Rattle.order.specs.Terms.{tally}
-use Rattle.order.specs.Rounds.{passed, passed-is, taken-near, taken-group, said-first, link-lt}
+use Rattle.order.specs.Rounds.{passed, passed-is, taken-near, taken-group, said-first}
 use Rattle.order.specs.Messages.{In, members-get, members-put, members-none, sets, Says, Every, every-split, tally-append, no-tally, set-tally, tally-members, carry}
-use Rattle.order.specs.Stream.{stream, before, Cut, cut, place, block, stream-more, every-stream, says-before, sets-stream}
+use Rattle.order.specs.Stream.{stream, Cut, cut, place, stream-more, every-stream, says-before, sets-stream}
 use Rattle.order.specs.Sums.{sum-more, sum-but-one}
 
 -- a list is the box's own, and the box is one of G

@@ -1,23 +1,22 @@
 -- A box that a message reaches "works until neither of these applies": that is take lists, at most one round, take lists. Its invariant afterwards, and
 -- that it has sent the next part of each wire's list. Assumes nothing.
-use Prim.Native.Nat.{ℕ, zero, suc, _+_, _-_, _^_, _≤_, _<_}
-use mathlib.Core.Path.{_≡_, refl, sym, ap, ap₂, _∙_, subst, fun-ext}
-use mathlib.Core.Bool.{Bool, true, false, not, _&&_, _||_, cond, true≢false, false≢true}
+use Prim.Native.Nat.{ℕ, zero, suc, _<_}
+use mathlib.Core.Path.{_≡_, refl, sym, ap, ap₂, _∙_, fun-ext}
+use mathlib.Core.Bool.{Bool, true, false, _&&_, cond, true≢false, false≢true}
 use mathlib.Core.List.{List, [], _∷_, _++_, append-assoc, append-nil}
-use mathlib.Core.Logic.{_⊎_, inl, inr, ⊎-elim, _≢_}
+use mathlib.Core.Logic.{_≢_}
 use native.Mathlib.Omega.{arith}
-use native.Mathlib.Decide.{decLe, decLt, ℕ-discrete}
+use native.Mathlib.Decide.{ℕ-discrete}
 use lib.Dec.{eqb}
-use lib.ListN.{length, length-append}
+use lib.ListN.{length}
 use Rattle.rules.specs.Sets.{mem, word, upd}
-use Rattle.rules.specs.Box.{Msg, notspt, neighbors, Box, Desk, asleep, lists, behind, saveLists, saveHeads, save, isSet, tail, allSets, roundSends, stops, round, work, receive}
-use Rattle.rules.specs.Rest.{Table, hops}
+use Rattle.rules.specs.Box.{Msg, notspt, neighbors, Box, Desk, lists, behind, saveLists, saveHeads, save, isSet, tail, allSets, roundSends, stops, round, work, receive}
+use Rattle.rules.specs.Rest.{Table}
 use Rattle.sets.specs.Loops.{by-bool}
 use Rattle.sets.specs.Tables.{eq-eqb, ne-eqb, upd-same, upd-other}
 use Rattle.order.specs.Rounds.{link-lt}
-use Rattle.order.specs.Messages.{sets, sets-append, no-sets, Says}
-use Rattle.order.specs.Wire.{wire, wire-more, next}
-use Rattle.order.specs.Invariant.{Tables, Flow, Spent, Half, Awake, Stopped, Sleeps, Seat, sleeps, wakes, rests, spoken}
+use Rattle.order.specs.Wire.{wire, wire-more}
+use Rattle.order.specs.Invariant.{Flow, Half, Awake, Stopped, Seat, sleeps, wakes, rests, spoken}
 use Rattle.order.specs.Save.{used, saved, behind-twice, lists-none, behind-none, no-head}
 use Rattle.order.specs.Round.{sets-all, sets-not, withSets, turned, round-is, after-hop, sends-next, sends-none, goes-on, comes-to-rest}
 
