@@ -1,7 +1,7 @@
 -- A sleeping box starts: its invariant, and that it has sent the first NOTSPT on each wire. Assumes nothing.
 use Prim.Native.Nat.{ℕ, _^_, _<_}
 use mathlib.Core.Path.{_≡_, refl, sym, ap, ap₂, _∙_}
-use mathlib.Core.Bool.{Bool, true, false, cond}
+use mathlib.Core.Bool.{true}
 use mathlib.Core.List.{List, [], _++_, append-nil}
 use mathlib.Core.Logic.{_≢_}
 use native.Mathlib.Omega.{arith}
@@ -20,7 +20,7 @@ use Rattle.order.specs.Messages.{no-sets}
 use Rattle.order.specs.Wire.{wire, wire-none, wire-first}
 use Rattle.order.specs.Invariant.{Tables, Awake, Stopped, Seat, wakes, rests, spoken}
 use Rattle.order.specs.Save.{behind-none}
-use Rattle.order.specs.Work.{Done, spoken-up, spoken-none}
+use Rattle.order.specs.Work.{Done, spoken-up, spoken-none, two-or-one}
 
 -- an empty table reads 0 everywhere
 abbrev pub none : ℕ → List ℕ
@@ -101,11 +101,7 @@ module _ (w : ℕ) (t : List ℕ) (s : Table w t) (j : ℕ) (hj : j < w) (n : �
 
   pub starts-up : (started w j (word t j)) .state ≢ 0
   unfolding started
-  starts-up = up (eqb (word t j) 0)
-    where
-      up : (x : Bool) → _≢_ {A = ℕ} (cond x 2 1) 0
-      up true = omega arith
-      up false = omega arith
+  starts-up = two-or-one (eqb (word t j) 0)
 
   first-said : (b : Box) → b .state ≡ 0 → (i : ℕ) → mem i (word t j) ≡ true → wire w t j i (spoken (started w j (word t j))) ≡ wire w t j i (spoken b) ++ startSends j (word t j) i
   unfolding started startSends

@@ -10,7 +10,7 @@ use Rattle.rules.specs.Sets.{mem, word}
 use Rattle.rules.specs.Box.{Msg, Box}
 use Rattle.rules.specs.Hub.{Hub, Wire, underWay}
 use Rattle.rules.specs.Rest.{Table, hops, farthest}
-use Rattle.sets.specs.Loops.{by-bool, sum-same, sum-none}
+use Rattle.sets.specs.Loops.{by-bool}
 use Rattle.hops.specs.Hops.{hops-gap, hops-zero, hops-near, hops-step}
 use Rattle.hops.specs.Rest.{far-most, far-there, far-lt}
 use Rattle.order.specs.Rounds.{link-lt, links-lt}
@@ -28,10 +28,6 @@ Idle h = (i j : ℕ) → (h .wires i j) .way ≡ []
 len-zero : (l : List Msg) → length l ≡ 0 → l ≡ []
 len-zero [] e = refl
 len-zero (m ∷ l) e = absurd (omega arith)
-
-pub idle-under : (w : ℕ) (h : Hub) → Idle h → underWay w h ≡ 0
-unfolding underWay
-idle-under w h I = sum-same w _ _ (λ i hi. sum-same w _ _ (λ j hj. ap length (I i j)) ∙ sum-none w) ∙ sum-none w
 
 module _ (w : ℕ) (t : List ℕ) (s : Table w t) (h : Hub) (G : Good w t h) where
   pub under-idle : underWay w h ≡ 0 → Idle h

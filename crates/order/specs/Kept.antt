@@ -2,7 +2,7 @@
 -- Assumes nothing.
 use Prim.Native.Nat.{ℕ, zero, suc, _+_, _<_}
 use mathlib.Core.Path.{_≡_, refl, sym, ap, _∙_}
-use mathlib.Core.Bool.{Bool, true, false, _&&_, _||_, cond, true≢false, false≢true}
+use mathlib.Core.Bool.{Bool, true, false, _&&_, _||_, true≢false, false≢true}
 use mathlib.Core.List.{List, [], _∷_}
 use mathlib.Core.Logic.{_⊎_, inl, inr, ⊎-elim, _≢_}
 use native.Mathlib.Omega.{arith}
@@ -12,9 +12,12 @@ use lib.ListN.{length}
 use Rattle.rules.specs.Sets.{mem, word, upd}
 use Rattle.rules.specs.Box.{Msg, Box, Desk, started, save, stops, nextHop, round, allSets, work, receive}
 use Rattle.rules.specs.Hub.{Hub, send, sendList, sendAll, settle, start, popped, handOver, deliver, act, run, drain, startAll, queuesOf, sender, receiver}
+use Rattle.sets.specs.Mem.{and-both}
 use Rattle.sets.specs.Loops.{by-bool, forEach-keeps}
 use Rattle.sets.specs.Tables.{eqb-eq, eq-eqb, upd-same, upd-other}
 use Rattle.order.specs.Terms.{asks}
+use Rattle.order.specs.Work.{two-or-one}
+use Rattle.order.specs.Moves.{popped-boxes, popped-moved}
 
 -- ---- sending touches no box and moves nothing
 
@@ -50,10 +53,6 @@ unfolding settle
 settle-moved w room i d h = all-still room i (d .sends) w _ .moved
 
 -- ---- a box that does not sleep goes on not sleeping
-
-two-or-one : (x : Bool) → _≢_ {A = ℕ} (cond x 2 1) 0
-two-or-one true = omega arith
-two-or-one false = omega arith
 
 round-up : (w n : ℕ) (d : Desk) → (round w n d) .box .state ≢ 0
 unfolding round nextHop
@@ -94,14 +93,6 @@ module _ (w room : ℕ) (t : List ℕ) where
   unfolding start
   start-moved j h = by-bool (eqb ((h .boxes j) .state) 0) (λ e. rw e (settle-moved w room j _ h)) (λ e. rw e)
 
-  popped-boxes : (a b : ℕ) (q : List Msg) (h : Hub) → (popped a b q h) .boxes ≡ h .boxes
-  unfolding popped
-  popped-boxes a b q h = refl
-
-  popped-moved : (a b : ℕ) (q : List Msg) (h : Hub) → (popped a b q h) .moved ≡ suc (h .moved)
-  unfolding popped
-  popped-moved a b q h = refl
-
   hand-keeps : (a b : ℕ) (m : Msg) (h : Hub) (i : ℕ) → (h .boxes b) .state ≢ 0 → (h .boxes i) .state ≢ 0 → ((handOver w room t a b m h) .boxes i) .state ≢ 0
   unfolding handOver
   hand-keeps a b m h i y z = settle-up w room b _ h i (receive-up w (word t b) a m (h .boxes b) (queuesOf h b) y) z
@@ -132,10 +123,6 @@ module _ (w room : ℕ) (t : List ℕ) where
   or-either true y h = inl refl
   or-either false y h = inr h
 
-  both : (x y : Bool) → x && y ≡ true → (x ≡ true) × (y ≡ true)
-  both true y h = (refl, h)
-  both false y h = absurd (false≢true h)
-
   -- a box that the list starts is not asleep at the end
   pub asked-up : (l : List ℕ) (h : Hub) (k : ℕ) → asks k l ≡ true → ((run w room t l h) .boxes k) .state ≢ 0
   unfolding run asks act
@@ -144,7 +131,7 @@ module _ (w room : ℕ) (t : List ℕ) where
   asked-up (a ∷ b ∷ l) h k e =
       ⊎-elim
       (λ u.
-      let (x, y) = both (eqb a b) (eqb a k) u in
+      let (x, y) = and-both (eqb a b) (eqb a k) u in
       run-keeps l (act w room t a b h) k (rw (x, eqb-eq a k y) (start-wakes k h)))
       (λ u. asked-up l (act w room t a b h) k u)
       (or-either (eqb a b && eqb a k) (asks k l) e)

@@ -10,13 +10,14 @@ use Rattle.rules.specs.Sets.{mem, word, sum}
 use Rattle.rules.specs.Box.{Msg, notspt, neighbors, Box}
 use Rattle.rules.specs.Hub.{Hub, Wire}
 use Rattle.rules.specs.Rest.{Table, hops, farthest, from, wireList}
+use Rattle.sets.specs.Mem.{mem-past}
 use Rattle.sets.specs.Loops.{by-bool, sum-same, sum-none}
 use Rattle.hops.specs.Rest.{from-ok, from-member, from-group, far-most}
 use Rattle.order.specs.Terms.{SetsOnly, handed, tally}
 use Rattle.order.specs.Rounds.{link-lt, links-lt, taken-near, taken-group}
-use Rattle.order.specs.Messages.{sets, sets-append, Says, says-l, says-r, says-where, tally-append, tally-none, no-tally}
+use Rattle.order.specs.Messages.{sets, sets-append, Says, says-l, says-r, says-where, tally-append, tally-none, tally-past, no-tally}
 use Rattle.order.specs.Sums.{sum-one, sum-le}
-use Rattle.order.specs.Wire.{wire, wire-sets, wire-begins, wire-list, list-place, tally-other, tally-one, tally-le}
+use Rattle.order.specs.Wire.{wire, wire-sets, wire-begins, wire-small, wire-list, list-place, tally-other, tally-one, tally-le}
 use Rattle.order.specs.Invariant.{Spent, Stopped, Seat, sleeps, wakes, rests, spoken, ways, Good, restHop}
 use Rattle.order.specs.Work.{spoken-up, spoken-none}
 use Rattle.order.specs.Rest.{stopped-at, rest-linked}
@@ -168,11 +169,29 @@ module _ (w : ℕ) (t : List ℕ) (s : Table w t) (h : Hub) (G : Good w t h) whe
   unfolding handed
   handed-gone j k = sum-le w _ _ (λ i hi. used-le i j k)
 
-  pub handed-le : (j k : ℕ) → k < w → handed w h j k ≤ 1
-  handed-le j k hk = omega (arith, handed-gone j k, gone-le j k hk)
+  -- no list of a box at or past w, and none to such a box
+  gone-past : (j k : ℕ) → w ≤ k → gone w h j k ≡ 0
+  gone-past j k l =
+      sum-same w _ _ (λ i hi. by-bool (mem j (word t i))
+      (λ v. ap (tally k) (G .log i j v) ∙ tally-past w k (wire w t i j (spoken (h .boxes i))) l (wire-small w t i j (spoken (h .boxes i))))
+      (λ v. ap (λ (x : Wire). tally k (x .log)) (G .quiet i j v) ∙ no-tally k)) ∙ sum-none w
 
-  pub handed-never : (j k : ℕ) → j < w → k < w → (j ≡ k) ⊎ (¬ (hops w t j k < w)) → handed w h j k ≡ 0
-  handed-never j k hj hk z = omega (arith, handed-gone j k, gone-never j k hj hk z)
+  gone-off : (j k : ℕ) → w ≤ j → gone w h j k ≡ 0
+  gone-off j k l =
+      sum-same w _ _ (λ i hi. ap (λ (x : Wire). tally k (x .log)) (G .quiet i j (mem-past w (word t i) (s .small i) j l)) ∙ no-tally k) ∙ sum-none w
+
+  pub handed-le : (j k : ℕ) → handed w h j k ≤ 1
+  handed-le j k = elim (decLt k w) [ yes hk ↦ omega (arith, handed-gone j k, gone-le j k hk) | no l ↦ omega (arith, handed-gone j k, gone-past j k (omega arith)) ]
+
+  pub handed-never : (j k : ℕ) → (j ≡ k) ⊎ (¬ (hops w t j k < w)) → handed w h j k ≡ 0
+  handed-never j k z =
+      elim (decLt k w) [
+        | yes hk ↦ elim (decLt j w) [
+          | yes hj ↦ omega (arith, handed-gone j k, gone-never j k hj hk z)
+          | no l ↦ omega (arith, handed-gone j k, gone-off j k (omega arith))
+        ]
+        | no l ↦ omega (arith, handed-gone j k, gone-past j k (omega arith))
+      ]
 
   pub handed-once : (j k : ℕ) → j < w → k < w → (h .boxes j) .state ≡ 2 → j ≢ k → hops w t j k < w → handed w h j k ≡ 1
   unfolding handed

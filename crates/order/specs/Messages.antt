@@ -148,6 +148,12 @@ tally-none k [] h = refl
 tally-none k (notspt s ∷ c) h = tally-none k c h
 tally-none k (neighbors j s ∷ c) h = rw (ne-eqb k j (λ e. h (inl e))) (omega (arith, tally-none k c (λ u. h (inr u))))
 
+pub tally-past : (w k : ℕ) (c : List Msg) → w ≤ k → Every (λ j s. j < w) c → tally k c ≡ 0
+unfolding tally
+tally-past w k [] h e = refl
+tally-past w k (notspt s ∷ c) h e = tally-past w k c h e
+tally-past w k (neighbors j s ∷ c) h e = rw (ne-eqb k j (omega (arith, e .0))) (omega (arith, tally-past w k c h (e .1)))
+
 -- ---- runs of lists
 
 -- the lists of the boxes js, in order, and then l

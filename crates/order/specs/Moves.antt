@@ -35,14 +35,6 @@ pub settled-box : (w j : ℕ) (d : Desk) (g : Hub) → (settled w j d g) .boxes 
 unfolding settled
 settled-box w j d g = upd-same (g .boxes) j (d .box)
 
-pub settled-boxes : (w j : ℕ) (d : Desk) (g : Hub) (i : ℕ) → i ≢ j → (settled w j d g) .boxes i ≡ g .boxes i
-unfolding settled
-settled-boxes w j d g i e = upd-other (g .boxes) j (d .box) i e
-
-pub settled-moved : (w j : ℕ) (d : Desk) (g : Hub) → (settled w j d g) .moved ≡ g .moved
-unfolding settled
-settled-moved w j d g = refl
-
 -- ---- the oldest message is off the wire
 
 module _ (a b : ℕ) (q : List Msg) (h : Hub) where
@@ -73,11 +65,11 @@ module _ (a b : ℕ) (q : List Msg) (h : Hub) where
         | no x ↦ ap f (popped-row i k x)
       ]
 
-  popped-boxes : (popped a b q h) .boxes ≡ h .boxes
+  pub popped-boxes : (popped a b q h) .boxes ≡ h .boxes
   unfolding popped
   popped-boxes = refl
 
-  popped-moved : (popped a b q h) .moved ≡ suc (h .moved)
+  pub popped-moved : (popped a b q h) .moved ≡ suc (h .moved)
   unfolding popped
   popped-moved = refl
 
@@ -247,10 +239,6 @@ module _ (w : ℕ) (t : List ℕ) (s : Table w t) (room : ℕ) (hr : w + 1 ≤ r
         (e ∙ ap (λ (x : List Msg). m ∷ x) (sym (up-way a (link-ne w t s a b back) ∙ ap (λ (x : Wire). x .way) (popped-here a b q h))))
         (λ i u z. sym (up-way i (link-ne w t s i b u) ∙ ap (λ (x : Wire). x .way) (popped-row a b q h i b z)))
         (up .boxes b) (queuesOf up b) (start-up (popped a b q h) b (ways w t h b) hb popped-held) (up-held .seat)
-
-    hand-settled : handOver w room t a b m up ≡ settled w b (receive w (word t b) a m (up .boxes b) (queuesOf up b)) up
-    unfolding handOver
-    hand-settled = settle-settled w t s up b _ (ways w t up b) hb (up-held .others) hand-done room hr
 
     hand-sound : Sound w t (handOver w room t a b m up)
     unfolding handOver

@@ -2,8 +2,8 @@
 -- For any number of boxes w, any link table of w boxes and any room of w + 1 or more. Each promise stands under the sentence of document 01 that it puts.
 -- The words are those of the rules, and of Terms. Assumes nothing.
 use Prim.Native.Nat.{ℕ, _+_, _^_, _≤_, _<_}
-use mathlib.Core.Path.{_≡_, refl, sym, _∙_}
-use mathlib.Core.Bool.{Bool, true, false, cond}
+use mathlib.Core.Path.{_≡_, refl, sym}
+use mathlib.Core.Bool.{true, false, cond}
 use mathlib.Core.List.{List, _++_}
 use mathlib.Core.Logic.{_⊎_, inl, inr, ⊎-elim, _≢_, _↔_}
 use native.Mathlib.Omega.{arith}
@@ -24,7 +24,7 @@ use Rattle.order.specs.Invariant.{Sound, ways}
 use Rattle.order.specs.Reached.{sound, run-reached, starts-reached, drain-reached, checked-names}
 use Rattle.order.specs.Settle.{room-of}
 use Rattle.order.specs.Moves.{good-held}
-use Rattle.order.specs.Rest.{at-rest, sleeps-at, hop-le, three-states, together-lt, lt-together, nodes-say, lists-say, in-say, in-off, not-say, not-off}
+use Rattle.order.specs.Rest.{at-rest, sleeps-at, hop-le, three-states, together-lt, lt-together, together-not, nodes-say, lists-say, in-say, in-off, not-say, not-off}
 use Rattle.order.specs.End.{under-idle, has-stopped, group-stopped}
 use Rattle.order.specs.Lists.{log-begins, log-whole, log-split, ended, late-none, handed-le, handed-never, handed-once}
 use Rattle.order.specs.Drain.{drained, finishes}
@@ -48,84 +48,82 @@ module _ (w : ℕ) (t : List ℕ) (table : Table w t) (room : ℕ) (wide : w + 1
   -- ---- at every moment
 
   module _ (h : Hub) (r : Reached w room t h) where
-    private-sound : Sound w t h
-    private-sound = sound w room t table wide r
+    kept : Sound w t h
+    kept = sound w room t table wide r
 
     -- 13: "a message would be the 21st waiting on one wire and its receiving queue together". It never is.
     pub never-full : h .full ≡ false
-    never-full = private-sound .counted .room
+    never-full = kept .counted .room
 
     pub few-wait : (a b : ℕ) → length ((h .wires a b) .queue) + length ((h .wires a b) .way) ≤ w + 1
     few-wait a b =
         by-bool (mem b (word t a))
-        (λ v. let ha : a < w = links-lt w t table a b v in room-of w t table a (ways w t h a) h ha (good-held w t table room wide h a ha (private-sound .good)) b v)
-        (λ v. rw (private-sound .good .quiet a b v) (omega arith))
+        (λ v. let ha : a < w = links-lt w t table a b v in room-of w t table a (ways w t h a) h ha (good-held w t table room wide h a ha (kept .good)) b v)
+        (λ v. rw (kept .good .quiet a b v) (omega arith))
 
     -- "sent = moved + under way always."
     pub counts : h .sent ≡ h .moved + underWay w h
-    counts = private-sound .counted .way
+    counts = kept .counted .way
 
     -- "sent is the total length of its wire lists"
     pub sent-lists : h .sent ≡ sum w (λ a. sum w (λ b. length ((h .wires a b) .log)))
-    sent-lists = private-sound .counted .all
+    sent-lists = kept .counted .all
 
     -- "A box is asleep, awake or stopped." "HOP .. The largest is 17."
     pub states : (i : ℕ) → i < w → ((h .boxes i) .state ≡ 0) ⊎ (((h .boxes i) .state ≡ 1) ⊎ ((h .boxes i) .state ≡ 2))
-    states i hi = three-states w t h i hi (private-sound .good)
+    states i hi = three-states w t h i hi (kept .good)
 
     pub hop-small : (i : ℕ) → i < w → (h .boxes i) .hop ≤ w + 1
-    hop-small i hi = hop-le w t table h i hi (private-sound .good)
+    hop-small i hi = hop-le w t table h i hi (kept .good)
 
     -- "The tables at rest": a stopped box's record, whole
     pub stopped-tables : (i : ℕ) → i < w → (h .boxes i) .state ≡ 2 → h .boxes i ≡ atRest w t i
-    stopped-tables i hi e = at-rest w t table h i hi (private-sound .good) e
+    stopped-tables i hi e = at-rest w t table h i hi (kept .good) e
 
     -- "A sleeping box's block is all zero."
     pub asleep-tables : (i : ℕ) → i < w → (h .boxes i) .state ≡ 0 → h .boxes i ≡ asleep w
-    asleep-tables i hi e = sleeps-at w t h i hi (private-sound .good) e .blank
+    asleep-tables i hi e = sleeps-at w t h i hi (kept .good) e .blank
 
     -- ---- the wire lists, before the end and at it
 
     -- what was sent on a wire is the beginning of the list that the sheet fixes for it
     pub wire-begins : (a b : ℕ) → mem b (word t a) ≡ true → (o : List Msg) × (wireList w t a b ≡ (h .wires a b) .log ++ o)
-    wire-begins a b v = log-begins w t table h (private-sound .good) a b v
+    wire-begins a b v = log-begins w t table h (kept .good) a b v
 
     -- and all of it once the sender has stopped
     pub wire-whole : (a b : ℕ) → mem b (word t a) ≡ true → (h .boxes a) .state ≡ 2 → (h .wires a b) .log ≡ wireList w t a b
-    wire-whole a b v e = log-whole w t table h (private-sound .good) a b v e
+    wire-whole a b v e = log-whole w t table h (kept .good) a b v e
 
     -- "first in first out": a receiver that has not stopped has used what was sent first, then comes its queue, then the wire
     pub wire-order : (a b : ℕ) → mem b (word t a) ≡ true → (h .boxes b) .state ≢ 2
         → (h .wires a b) .log ≡ (h .wires a b) .taken ++ ((h .wires a b) .queue ++ (h .wires a b) .way)
-    wire-order a b v e = log-split w t table h (private-sound .good) a b v e
+    wire-order a b v e = log-split w t table h (kept .good) a b v e
 
     -- "A stopping box empties its queues. A message delivered to a stopped box is taken and dropped." No list is dropped
     pub wire-dropped : (a b : ℕ) → mem b (word t a) ≡ true → (h .boxes b) .state ≡ 2
         → (dropped : List Msg) × ((h .wires a b) .log ≡ (h .wires a b) .taken ++ (dropped ++ (h .wires a b) .way)) × SetsOnly dropped
-    wire-dropped a b v e = (ended w t table h (private-sound .good) a b v e .dropped, ended w t table h (private-sound .good) a b v e .all, ended w t table h (private-sound .good) a b v e .clean)
+    wire-dropped a b v e = let d = ended w t table h (kept .good) a b v e in (d .dropped, d .all, d .clean)
 
     -- nor will one be: none is under way to it
     pub wire-late : (a b : ℕ) → mem b (word t a) ≡ true → (h .boxes b) .state ≡ 2 → SetsOnly ((h .wires a b) .way)
-    wire-late a b v e = late-none w t table h (private-sound .good) a b v e
+    wire-late a b v e = late-none w t table h (kept .good) a b v e
 
     -- "It makes two wires": where there is no link there is nothing
     pub no-wire : (a b : ℕ) → mem b (word t a) ≡ false → h .wires a b ≡ noWire
-    no-wire a b v = private-sound .good .quiet a b v
+    no-wire a b v = kept .good .quiet a b v
 
     -- ---- each list exactly once
 
-    pub lists-once : (j k : ℕ) → k < w → handed w h j k ≤ 1
-    lists-once j k hk = handed-le w t table h (private-sound .good) j k hk
+    pub lists-once : (j k : ℕ) → handed w h j k ≤ 1
+    lists-once j k = handed-le w t table h (kept .good) j k
 
     -- a stopped box has used the list of every other member of its group
     pub lists-all : (j k : ℕ) → j < w → k < w → (h .boxes j) .state ≡ 2 → j ≢ k → together w t j k ≡ true → handed w h j k ≡ 1
-    lists-all j k hj hk e z g = handed-once w t table h (private-sound .good) j k hj hk e z (together-lt w t j k g)
+    lists-all j k hj hk e z g = handed-once w t table h (kept .good) j k hj hk e z (together-lt w t j k g)
 
     -- and no box ever its own, or that of a box of another group
-    pub lists-else : (j k : ℕ) → j < w → k < w → (j ≡ k) ⊎ (together w t j k ≡ false) → handed w h j k ≡ 0
-    lists-else j k hj hk z =
-        handed-never w t table h (private-sound .good) j k hj hk
-        (⊎-elim (λ e. inl e) (λ e. inr (λ g. absurd (mathlib.Core.Bool.true≢false (sym (lt-together w t j k g) ∙ e)))) z)
+    pub lists-else : (j k : ℕ) → (j ≡ k) ⊎ (together w t j k ≡ false) → handed w h j k ≡ 0
+    lists-else j k z = handed-never w t table h (kept .good) j k (⊎-elim (λ e. inl e) (λ e. inr (together-not w t j k e)) z)
 
     -- ---- the end: "none is under way"
 
@@ -135,23 +133,23 @@ module _ (w : ℕ) (t : List ℕ) (table : Table w t) (room : ℕ) (wide : w + 1
       end-states i hi =
           elim (ℕ-discrete ((h .boxes i) .state) 0) [
             | yes e ↦ inl (asleep-tables i hi e)
-            | no e ↦ inr (stopped-tables i hi (has-stopped w t table h (private-sound .good) (under-idle w t table h (private-sound .good) none) i hi e))
+            | no e ↦ inr (stopped-tables i hi (has-stopped w t table h (kept .good) (under-idle w t table h (kept .good) none) i hi e))
           ]
 
       -- every box of a group in which a box is not asleep has stopped
       pub end-group : (i k : ℕ) → i < w → k < w → together w t i k ≡ true → (h .boxes i) .state ≢ 0 → h .boxes k ≡ atRest w t k
       end-group i k hi hk g z =
-          stopped-tables k hk (group-stopped w t table h (private-sound .good) (under-idle w t table h (private-sound .good) none) i k hi hk (together-lt w t i k g) z)
+          stopped-tables k hk (group-stopped w t table h (kept .good) (under-idle w t table h (kept .good) none) i k hi hk (together-lt w t i k g) z)
 
     -- ---- the drain, from here
 
     -- "It ends when none is under way or when the messages moved reach the budget"
     pub drain-ends : (budget : ℕ) → (underWay w (drain w room t budget h) ≡ 0) ⊎ ((drain w room t budget h) .moved ≡ h .moved + budget)
-    drain-ends budget = drained w t table room wide budget h private-sound .1
+    drain-ends budget = drained w t table room wide budget h kept .1
 
     -- "A budget of E(N+2) + N(N-1) always finishes", and so does every larger one
     pub drain-finishes : (n : ℕ) → n ≤ w → ((i : ℕ) → word t i < 2 ^ n) → (budget : ℕ) → enough w t n ≤ budget → underWay w (drain w room t budget h) ≡ 0
-    drain-finishes n hn low budget l = finishes w t table room wide n hn low budget h l private-sound
+    drain-finishes n hn low budget l = finishes w t table room wide n hn low budget h l kept
 
   -- ---- the end of a list, and of the drain, from a sleeping hub
 
@@ -163,6 +161,12 @@ module _ (w : ℕ) (t : List ℕ) (table : Table w t) (room : ℕ) (wide : w + 1
   pub drain-end : (x budget : ℕ) → underWay w (drain w room t budget (startAll w room t x (sleeping w))) ≡ 0
       → Final w t x (drain w room t budget (startAll w room t x (sleeping w)))
   drain-end x budget e = drain-final w t table room wide (sound w room t table wide begin) x budget (sound w room t table wide (drain-leads x budget (sleeping w) begin)) e
+
+  -- so a drain of enough budget ends there, whatever was started
+  pub drain-all : (n : ℕ) → n ≤ w → ((i : ℕ) → word t i < 2 ^ n) → (x budget : ℕ) → enough w t n ≤ budget
+      → Final w t x (drain w room t budget (startAll w room t x (sleeping w)))
+  drain-all n hn low x budget l =
+      drain-end x budget (drain-finishes (startAll w room t x (sleeping w)) (starts-reached w room t x (sleeping w) begin) n hn low budget l)
 
   -- the order of the deliveries leaves no trace: two ends with the same started groups have the same boxes and counts
   pub ends-alike : (x y : ℕ) (g h : Hub) → ((i : ℕ) → i < w → reached w t x i ≡ reached w t y i) → Final w t x g → Final w t y h → Alike w g h

@@ -1,7 +1,7 @@
 -- A stopped box's record is the tables at rest, whole; and what those tables say. Assumes nothing.
 use Prim.Native.Nat.{ℕ, suc, _+_, _≤_, _<_}
 use mathlib.Core.Path.{_≡_, sym, ap, _∙_}
-use mathlib.Core.Bool.{true, false, not, _&&_, cond, true≢false}
+use mathlib.Core.Bool.{true, false, cond, true≢false}
 use mathlib.Core.List.{List}
 use mathlib.Core.Logic.{_⊎_, inl, inr, _≢_, _↔_}
 use native.Mathlib.Omega.{arith}
@@ -13,12 +13,12 @@ use Rattle.rules.specs.Sets.{mem, word, words}
 use Rattle.rules.specs.Box.{Msg, Box}
 use Rattle.rules.specs.Hub.{Hub}
 use Rattle.rules.specs.Rest.{Table, hops, together, layer, farthest, from, inAtRest, notAtRest, atRest}
-use Rattle.sets.specs.Mem.{same, and-both, mem-setOf}
+use Rattle.sets.specs.Mem.{same}
 use Rattle.sets.specs.Loops.{by-bool, length-words, getD-words}
-use Rattle.sets.specs.Tables.{eqb-eq, eq-eqb, ne-eqb, eqb-ne}
+use Rattle.sets.specs.Tables.{ne-eqb}
 use Rattle.hops.specs.Hops.{hops-gap, hops-step, hops-near}
 use Rattle.hops.specs.Rest.{in-layer, layer-in, layer-none, far-lt, far-most}
-use Rattle.order.specs.Rounds.{setOf-is, and-true, not-false, not-true, inCut-is, heard, heard-is, heardTo, taken-group, no-link, not-from, zero-is}
+use Rattle.order.specs.Rounds.{in-rest-is, not-rest-is, not-rest-off, heard-last, inCut-is, heard-is, heardTo, taken-group, no-link, not-from, zero-is}
 use Rattle.order.specs.Invariant.{Awake, Stopped, Sleeps, Seat, sleeps, wakes, rests, spoken, ways, Good, restHop}
 use Rattle.order.specs.Send.{lt-ltb, ltb-lt}
 
@@ -105,28 +105,23 @@ module _ (w : ℕ) (t : List ℕ) where
           ]
 
       rest-in : (j : ℕ) → j < w → word (b .inSpt) j ≡ inAtRest w t i j
-      unfolding inAtRest
       rest-in j hj =
           p .tables .ins j hj
-          ∙ same (inCut-is w t i j (b .hop)) (setOf-is w (λ k. eqb (from w t i k) j) (λ k. from w t i k ≡ j) (λ k e. eqb-eq _ _ e) (λ k e. eq-eqb _ _ e))
+          ∙ same (inCut-is w t i j (b .hop)) (in-rest-is w t i j)
           (λ k hk q. q .0)
           (λ k hk q. (q, omega (arith, rest-far i k hi hk (taken-group w t s j i k hj hi q .1), p .last)))
 
       rest-not : (j : ℕ) → j < w → word (b .notSpt) j ≡ notAtRest w t i j
-      unfolding notAtRest heardTo
       rest-not j hj =
           by-bool (mem j (word t i))
           (λ v.
           let e : ℕ = farthest w t i in
           let y : b .hop ≡ suc (suc e) = omega (arith, p .last, rest-linked i j v) in
-          rw v (p .tables .heard j v ∙ ap (heardTo w t i j) y
-          ∙ same (heard-is w t i j (suc e))
-          (setOf-is w (λ k. together w t i k && not (eqb (from w t j k) i)) (λ k. (hops w t i k < w) × (from w t j k ≢ i))
-          (λ k q. let (a, c) = and-both _ _ q in (together-lt i k a, eqb-ne _ _ (not-true _ c)))
-          (λ k q. and-true _ _ (lt-together i k (q .0)) (not-false _ (ne-eqb _ _ (q .1)))))
-          (λ k hk q. (hops-gap w t s i k hi (omega (arith, hops-step w t s i j k hi v, hops-gap w t s j k hj (omega (arith, q .0, far-lt w t s i hi)))), q .1))
-          (λ k hk q. (omega (arith, far-most w t s i hi k hk (q .0), hops-step w t s j i k hj (s .both i j v)), q .1))))
-          (λ v. rw v (p .tables .deaf j v))
+          p .tables .heard j v ∙ ap (heardTo w t i j) y ∙ heard-last w t i j (suc e)
+          ∙ same (heard-is w t i j (suc e)) (not-rest-is w t i j v)
+          (λ k hk q. (lt-together i k (hops-gap w t s i k hi (omega (arith, hops-step w t s i j k hi v, hops-gap w t s j k hj (omega (arith, q .0, far-lt w t s i hi))))), q .1))
+          (λ k hk q. (omega (arith, far-most w t s i hi k hk (together-lt i k (q .0)), hops-step w t s j i k hj (s .both i j v)), q .1)))
+          (λ v. p .tables .deaf j v ∙ sym (not-rest-off w t i j v))
 
       rest-lists : (k : ℕ) → k < w → word (b .neighbors) k ≡ cond (together w t i k) (word t k) 0
       rest-lists k hk =
@@ -168,30 +163,26 @@ module _ (w : ℕ) (t : List ℕ) where
   lists-say i k hk = getD-words w (λ k. cond (together w t i k) (word t k) 0) k hk
 
   pub in-say : (i j k : ℕ) → j < w → k < w → (mem k (word ((atRest w t i) .inSpt) j) ≡ true) ↔ (from w t i k ≡ j)
-  unfolding atRest inAtRest
+  unfolding atRest
   in-say i j k hj hk =
-      let e : mem k (word (words w (inAtRest w t i)) j) ≡ eqb (from w t i k) j =
-      ap (mem k) (getD-words w (inAtRest w t i) j hj) ∙ mem-setOf w (λ k. eqb (from w t i k) j) k hk in
-      (λ m. eqb-eq _ _ (sym e ∙ m), λ z. e ∙ eq-eqb _ _ z)
+      let e : word (words w (inAtRest w t i)) j ≡ inAtRest w t i j = getD-words w (inAtRest w t i) j hj in
+      (λ m. in-rest-is w t i j .get k (ap (mem k) (sym e) ∙ m), λ z. ap (mem k) e ∙ in-rest-is w t i j .put k hk z)
 
   pub not-say : (i j k : ℕ) → mem j (word t i) ≡ true → j < w → k < w
       → (mem k (word ((atRest w t i) .notSpt) j) ≡ true) ↔ ((together w t i k ≡ true) × (from w t j k ≢ i))
-  unfolding atRest notAtRest
+  unfolding atRest
   not-say i j k v hj hk =
-      let e : mem k (word (words w (notAtRest w t i)) j) ≡ together w t i k && not (eqb (from w t j k) i) =
-      ap (mem k) (getD-words w (notAtRest w t i) j hj) ∙ rw v (mem-setOf w (λ k. together w t i k && not (eqb (from w t j k) i)) k hk) in (
-        λ m. let (a, b) = and-both _ _ (sym e ∙ m) in (a, eqb-ne _ _ (not-true _ b)),
-        λ z. e ∙ and-true _ _ (z .0) (not-false _ (ne-eqb _ _ (z .1))),
-      )
+      let e : word (words w (notAtRest w t i)) j ≡ notAtRest w t i j = getD-words w (notAtRest w t i) j hj in
+      (λ m. not-rest-is w t i j v .get k (ap (mem k) (sym e) ∙ m), λ z. ap (mem k) e ∙ not-rest-is w t i j v .put k hk z)
 
   -- "Both sets are zero for a J that is no neighbour."
   pub in-off : (s : Table w t) (i j : ℕ) → j < w → mem j (word t i) ≡ false → word ((atRest w t i) .inSpt) j ≡ 0
-  unfolding atRest inAtRest
+  unfolding atRest
   in-off s i j hj v =
       getD-words w (inAtRest w t i) j hj
-      ∙ same (setOf-is w (λ k. eqb (from w t i k) j) (λ k. from w t i k ≡ j) (λ k e. eqb-eq _ _ e) (λ k e. eq-eqb _ _ e)) (zero-is w)
+      ∙ same (in-rest-is w t i j) (zero-is w)
       (λ k hk e. not-from w t s i j k hj v e) (λ k hk e. absurd e)
 
   pub not-off : (i j : ℕ) → j < w → mem j (word t i) ≡ false → word ((atRest w t i) .notSpt) j ≡ 0
-  unfolding atRest notAtRest
-  not-off i j hj v = getD-words w (notAtRest w t i) j hj ∙ rw v
+  unfolding atRest
+  not-off i j hj v = getD-words w (notAtRest w t i) j hj ∙ not-rest-off w t i j v

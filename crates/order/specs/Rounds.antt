@@ -10,7 +10,7 @@ use lib.Bits.{bitOr}
 use lib.Dec.{eqb}
 use lib.Pow.{pow-pos, pow-lt}
 use Rattle.rules.specs.Sets.{mem, without, setOf, word}
-use Rattle.rules.specs.Rest.{Table, hops, layer, from, saidSet}
+use Rattle.rules.specs.Rest.{Table, hops, together, layer, from, inAtRest, notAtRest, saidSet}
 use Rattle.sets.specs.Mem.{mem-setOf, setOf-lt, Is, sel, sel-is, same, or-is, without-is, and-both, not-both, in-lt, mem-empty, in-one, one-in}
 use Rattle.sets.specs.Tables.{eqb-eq, eq-eqb, ne-eqb, eqb-ne}
 use Rattle.hops.specs.Hops.{hops-gap, hops-self, hops-zero, hops-step}
@@ -49,10 +49,6 @@ zero-is w = record { small = pow-pos w; get = λ k m. not-both k 0 m (mem-empty 
 pub one-is : (w i : ℕ) → i < w → Is w (2 ^ i) (λ k. k ≡ i)
 one-is w i h = record { small = pow-lt h; get = λ k m. in-one k i m; put = λ k l x. rw x (one-in i) }
 
--- the set of one box is what that box holds
-pub none-is : (w s : ℕ) → Is w s (λ k. ⊥) → s ≡ 0
-none-is w s p = same p (zero-is w) (λ k l x. x) (λ k l x. x)
-
 module _ (w : ℕ) (t : List ℕ) where
   pub layer-is : (i d : ℕ) → Is w (layer w t i d) (λ k. hops w t i k ≡ d)
   layer-is i d = record { small = layer-lt w t i d; get = in-layer w t i d; put = layer-in w t i d }
@@ -75,6 +71,22 @@ module _ (w : ℕ) (t : List ℕ) where
       setOf-is w (λ k. eqb (hops w t i k) d && eqb (from w t j k) i) (λ k. (hops w t i k ≡ d) × (from w t j k ≡ i))
       (λ k e. let (a, b) = and-both _ _ e in (eqb-eq _ _ a, eqb-eq _ _ b))
       (λ k p. and-true _ _ (eq-eqb _ _ (p .0)) (eq-eqb _ _ (p .1)))
+
+  -- In_SPT(j) and Not_SPT(j) of the tables at rest
+  pub in-rest-is : (i j : ℕ) → Is w (inAtRest w t i j) (λ k. from w t i k ≡ j)
+  unfolding inAtRest
+  in-rest-is i j = setOf-is w (λ k. eqb (from w t i k) j) (λ k. from w t i k ≡ j) (λ k e. eqb-eq _ _ e) (λ k e. eq-eqb _ _ e)
+
+  pub not-rest-is : (i j : ℕ) → mem j (word t i) ≡ true → Is w (notAtRest w t i j) (λ k. (together w t i k ≡ true) × (¬ (from w t j k ≡ i)))
+  unfolding notAtRest
+  not-rest-is i j v = rw v (
+      setOf-is w (λ k. together w t i k && not (eqb (from w t j k) i)) (λ k. (together w t i k ≡ true) × (¬ (from w t j k ≡ i)))
+      (λ k e. let (a, b) = and-both _ _ e in (a, eqb-ne _ _ (not-true _ b)))
+      (λ k p. and-true _ _ (p .0) (not-false _ (ne-eqb _ _ (p .1)))))
+
+  pub not-rest-off : (i j : ℕ) → mem j (word t i) ≡ false → notAtRest w t i j ≡ 0
+  unfolding notAtRest
+  not-rest-off i j v = rw v
 
   -- In_SPT(j) at i: what has come over j from at most c hops
   unfoldable pub inCut : ℕ → ℕ → ℕ → ℕ
@@ -111,6 +123,10 @@ module _ (w : ℕ) (t : List ℕ) where
   unfoldable pub heardTo : ℕ → ℕ → ℕ → ℕ
   heardTo i j zero = 0
   heardTo i j (suc h) = heard i j h
+
+  pub heard-last : (i j h : ℕ) → heardTo i j (suc h) ≡ heard i j h
+  unfolding heardTo
+  heard-last i j h = refl
 
   -- ---- what joins in a round
 
@@ -255,6 +271,3 @@ module _ (w : ℕ) (t : List ℕ) (s : Table w t) where
   -- "Nodes(16) and beyond are always empty": no box is w or w + 1 hops away
   pub cur-far : (i h n : ℕ) → i < w → h ≤ w → w ≤ suc h → curAt w t i h n ≡ 0
   cur-far i h n hi hh far = same (curAt-is w t i h n) (zero-is w) (λ k l p. omega (arith, hops-gap w t s i k hi (omega (arith, p .0)), p .0)) (λ k l p. absurd p)
-
-  pub layer-far : (i d : ℕ) → i < w → w ≤ d → d < w + 2 → layer w t i d ≡ 0
-  layer-far i d hi h l = same (layer-is w t i d) (zero-is w) (λ k hk p. omega (arith, hops-gap w t s i k hi (omega arith))) (λ k hk p. absurd p)

@@ -85,10 +85,6 @@ upd-two f a b m x y =
     (λ e. rw e (sym (longer-none (f x y))))
 
 module _ (room a : ℕ) where
-  -- room for k messages more on the wire from a to b
-  abbrev Room : ℕ → ℕ → Hub → Type 0
-  Room b k h = length ((h .wires a b) .queue) + length ((h .wires a b) .way) + k ≤ room
-
   send-is : (b : ℕ) (m : Msg) (h : Hub) → length ((h .wires a b) .queue) + length ((h .wires a b) .way) + 1 ≤ room → send room a b m h ≡ plus (only a b (m ∷ [])) 1 h
   unfolding send
   send-is b m h r =

@@ -32,6 +32,10 @@ pub spoken-none : (b : Box) → b .state ≡ 0 → spoken b ≡ 0
 unfolding spoken
 spoken-none b e = rw (e, spoken)
 
+pub two-or-one : (x : Bool) → _≢_ {A = ℕ} (cond x 2 1) 0
+two-or-one true = omega arith
+two-or-one false = omega arith
+
 -- ---- with nothing queued there is nothing to save
 
 save-heads-none : (n : ℕ) (q : ℕ → List Msg) (l : List ℕ) → ((i : ℕ) → q i ≡ []) → saveHeads n q l ≡ l
@@ -124,14 +128,10 @@ module _ (w : ℕ) (t : List ℕ) (s : Table w t) (j : ℕ) (hj : j < w) (n : �
           → wire w t j i (spoken ((turned w (word t j) d x) .box)) ≡ wire w t j i (spoken (d .box)) ++ (turned w (word t j) d x) .sends i
       sent-now x i v =
           let e : spoken ((turned w (word t j) d x) .box) ≡ suc (suc (d .box .hop)) =
-          spoken-up _ (up x) ∙ ap (λ (h : ℕ). suc (suc h)) (after-hop w t s j hj n past rest d p r) in
+          spoken-up _ (two-or-one x) ∙ ap (λ (h : ℕ). suc (suc h)) (after-hop w t s j hj n past rest d p r) in
           let f : spoken (d .box) ≡ suc (d .box .hop) = spoken-up (d .box) (omega (arith, p .state)) in
           ap (wire w t j i) e ∙ wire-more w t j i (suc (d .box .hop))
           ∙ ap₂ _++_ (ap (wire w t j i) (sym f)) (sym (ap (λ (l : List Msg). l ++ roundSends w (word t j) (withSets w (word t j) d) i) (c .sends i) ∙ sends-next w t s j hj n past rest d p r i v))
-        where
-          up : (x : Bool) → _≢_ {A = ℕ} (cond x 2 1) 0
-          up true = omega arith
-          up false = omega arith
 
       none-now : (x : Bool) (i : ℕ) → mem i (word t j) ≡ false
           → ((turned w (word t j) d x) .sends i ≡ []) × ((turned w (word t j) d x) .taken i ≡ []) × ((turned w (word t j) d x) .queues i ≡ [])
