@@ -43,6 +43,10 @@ begun w i n x = record {
   neighbors = set (none w) i n;
 }
 
+pub started-up : (w i n : ℕ) → (started w i n) .state ≢ 0
+unfolding started
+started-up w i n = two-or-one (eqb n 0)
+
 module _ (w : ℕ) (t : List ℕ) (s : Table w t) (j : ℕ) (hj : j < w) (n : ℕ → ℕ) (past rest : ℕ → List Msg)
     (used-none : (i : ℕ) → mem i (word t j) ≡ true → past i ≡ [])
     (waiting : (i : ℕ) → mem i (word t j) ≡ true → wire w t i j (n i) ≡ rest i) where
@@ -99,14 +103,10 @@ module _ (w : ℕ) (t : List ℕ) (s : Table w t) (j : ℕ) (hj : j < w) (n : �
   abbrev pub first : Desk
   first = record { box = started w j (word t j); queues = λ a. []; sends = startSends j (word t j); taken = λ a. [] }
 
-  pub starts-up : (started w j (word t j)) .state ≢ 0
-  unfolding started
-  starts-up = two-or-one (eqb (word t j) 0)
-
   first-said : (b : Box) → b .state ≡ 0 → (i : ℕ) → mem i (word t j) ≡ true → wire w t j i (spoken (started w j (word t j))) ≡ wire w t j i (spoken b) ++ startSends j (word t j) i
   unfolding started startSends
   first-said b e i v =
-      ap (wire w t j i) (spoken-up (started w j (word t j)) starts-up) ∙ wire-first w t s j i hj v
+      ap (wire w t j i) (spoken-up (started w j (word t j)) (started-up w j (word t j))) ∙ wire-first w t s j i hj v
       ∙ sym (ap₂ _++_ (ap (wire w t j i) (spoken-none b e) ∙ wire-none w t j i) (rw v))
 
   first-seat : Seat w t j n (λ i. past i ++ []) (λ i. []) rest (started w j (word t j))

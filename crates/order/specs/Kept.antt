@@ -17,6 +17,7 @@ use Rattle.sets.specs.Loops.{by-bool, forEach-keeps}
 use Rattle.sets.specs.Tables.{eqb-eq, eq-eqb, upd-same, upd-other}
 use Rattle.order.specs.Terms.{asks}
 use Rattle.order.specs.Work.{two-or-one}
+use Rattle.order.specs.Begin.{started-up}
 use Rattle.order.specs.Moves.{popped-boxes, popped-moved}
 
 -- ---- sending touches no box and moves nothing
@@ -74,19 +75,15 @@ settle-up w room j d h i y z =
     rw (settle-boxes w room j d h) (elim (ℕ-discrete i j) [ yes e ↦ rw (e, upd-same (h .boxes) j (d .box)) y | no e ↦ rw (upd-other (h .boxes) j (d .box) i e) z ])
 
 module _ (w room : ℕ) (t : List ℕ) where
-  started-up : (j : ℕ) → (started w j (word t j)) .state ≢ 0
-  unfolding started
-  started-up j = two-or-one (eqb (word t j) 0)
-
   pub start-keeps : (j : ℕ) (h : Hub) (i : ℕ) → (h .boxes i) .state ≢ 0 → ((start w room t j h) .boxes i) .state ≢ 0
   unfolding start
-  start-keeps j h i z = by-bool (eqb ((h .boxes j) .state) 0) (λ e. rw e (settle-up w room j _ h i (started-up j) z)) (λ e. rw e z)
+  start-keeps j h i z = by-bool (eqb ((h .boxes j) .state) 0) (λ e. rw e (settle-up w room j _ h i (started-up w j (word t j)) z)) (λ e. rw e z)
 
   pub start-wakes : (j : ℕ) (h : Hub) → ((start w room t j h) .boxes j) .state ≢ 0
   unfolding start
   start-wakes j h =
       by-bool (eqb ((h .boxes j) .state) 0)
-      (λ e. rw (e, settle-boxes w room j (record { box = started w j (word t j); queues = λ a. []; sends = _; taken = λ a. [] }) h, upd-same (h .boxes) j (started w j (word t j))) (started-up j))
+      (λ e. rw (e, settle-boxes w room j (record { box = started w j (word t j); queues = λ a. []; sends = _; taken = λ a. [] }) h, upd-same (h .boxes) j (started w j (word t j))) (started-up w j (word t j)))
       (λ e. rw e (λ z. true≢false (sym (eq-eqb _ 0 z) ∙ e)))
 
   start-moved : (j : ℕ) (h : Hub) → (start w room t j h) .moved ≡ h .moved

@@ -19,7 +19,7 @@ use Rattle.order.specs.Sums.{sum-more}
 use Rattle.order.specs.Wire.{wire}
 use Rattle.order.specs.Invariant.{Seat, sleeps, wakes, rests, spoken, SeatOf, ways, Others, Held, Good, Counted, Sound}
 use Rattle.order.specs.Work.{Done, received}
-use Rattle.order.specs.Begin.{begins, starts-up}
+use Rattle.order.specs.Begin.{begins, started-up}
 use Rattle.order.specs.Send.{left, settled}
 use Rattle.order.specs.Settle.{same-grown, grown, settle-settled, settle-held, settled-counted}
 
@@ -88,6 +88,16 @@ module _ (a b : ℕ) (q : List Msg) (h : Hub) where
         room = c .room;
       }
 
+module _ (w : ℕ) (t : List ℕ) where
+  pub good-held : (h : Hub) (j : ℕ) → j < w → Good w t h → Held w t j (ways w t h j) h
+  good-held h j hj G = record { others = record { seats = λ i hi e. G .seats i hi; quiet = G .quiet; log = G .log }; seat = G .seats j hj }
+
+  -- a message is under way on links alone
+  pub full-link : (h : Hub) (a b : ℕ) (m : Msg) (q : List Msg) → (h .wires a b) .way ≡ m ∷ q → Good w t h → mem b (word t a) ≡ true
+  full-link h a b m q e G =
+      by-bool (mem b (word t a)) (λ v. v)
+      (λ v. let z : _≡_ {A = List Msg} [] (m ∷ q) = sym (ap (λ (x : Wire). x .way) (G .quiet a b v)) ∙ e in let y : _≡_ {A = ℕ} 0 1 = cc in absurd (omega arith))
+
 module _ (w : ℕ) (t : List ℕ) (s : Table w t) (room : ℕ) (hr : w + 1 ≤ room) where
   -- a box is seen the same in two hubs that agree on it
   seat-in : (g h : Hub) (i : ℕ) (rest : ℕ → List Msg) → h .boxes ≡ g .boxes
@@ -101,9 +111,6 @@ module _ (w : ℕ) (t : List ℕ) (s : Table w t) (room : ℕ) (hr : w + 1 ≤ r
   seat-rest h i rest rest′ e p =
       grown w t i (λ k. spoken (h .boxes k)) _ _ rest (λ k. spoken (h .boxes k)) rest′ (h .boxes i)
       (same-grown w t i (λ k. spoken (h .boxes k)) (λ k. spoken (h .boxes k)) rest rest′ (λ k v. (refl, e k v))) p
-
-  pub good-held : (h : Hub) (j : ℕ) → j < w → Good w t h → Held w t j (ways w t h j) h
-  good-held h j hj G = record { others = record { seats = λ i hi e. G .seats i hi; quiet = G .quiet; log = G .log }; seat = G .seats j hj }
 
   held-good : (h : Hub) (j : ℕ) → Held w t j (ways w t h j) h → Good w t h
   held-good h j H = record {
@@ -172,7 +179,7 @@ module _ (w : ℕ) (t : List ℕ) (s : Table w t) (room : ℕ) (hr : w + 1 ≤ r
   start-up : (h : Hub) (j : ℕ) (rest : ℕ → List Msg) → j < w → Held w t j rest h → ((start w room t j h) .boxes j) .state ≢ 0
   start-up h j rest hj H =
       ⊎-elim
-      (λ x. λ z. starts-up w t s j hj (λ k. 0) (λ k. []) (λ k. wire w t k j 0) (λ k v. refl) (λ k v. refl)
+      (λ x. λ z. started-up w j (word t j)
       (ap (λ (b : Box). b .state) (sym (settled-box w j (firstDesk j) h)) ∙ ap (λ (g : Hub). (g .boxes j) .state) (sym (x .1)) ∙ z))
       (λ x. λ z. x .0 (ap (λ (g : Hub). (g .boxes j) .state) (sym (x .1)) ∙ z))
       (start-cases h j rest hj H)
@@ -186,7 +193,7 @@ module _ (w : ℕ) (t : List ℕ) (s : Table w t) (room : ℕ) (hr : w + 1 ≤ r
 
   pub start-sound : (h : Hub) (j : ℕ) → j < w → Sound w t h → Sound w t (start w room t j h)
   start-sound h j hj S =
-      let H : Held w t j (ways w t h j) h = good-held h j hj (S .good) in
+      let H : Held w t j (ways w t h j) h = good-held w t h j hj (S .good) in
       record {
         good = elim (ℕ-discrete ((h .boxes j) .state) 0) [
           | yes e ↦ rw (start-yes h j e) (settle-good h j (firstDesk j) hj (H .others) (start-done h j (ways w t h j) hj e (H .seat)))
@@ -196,11 +203,6 @@ module _ (w : ℕ) (t : List ℕ) (s : Table w t) (room : ℕ) (hr : w + 1 ≤ r
       }
 
   -- ---- deliver
-
-  pub full-link : (h : Hub) (a b : ℕ) (m : Msg) (q : List Msg) → (h .wires a b) .way ≡ m ∷ q → Good w t h → mem b (word t a) ≡ true
-  full-link h a b m q e G =
-      by-bool (mem b (word t a)) (λ v. v)
-      (λ v. let z : _≡_ {A = List Msg} [] (m ∷ q) = sym (ap (λ (x : Wire). x .way) (G .quiet a b v)) ∙ e in let y : _≡_ {A = ℕ} 0 1 = cc in absurd (omega arith))
 
   module _ (h : Hub) (a b : ℕ) (m : Msg) (q : List Msg) (v : mem b (word t a) ≡ true) (e : (h .wires a b) .way ≡ m ∷ q) (S : Sound w t h) where
     hb : b < w
@@ -261,4 +263,4 @@ module _ (w : ℕ) (t : List ℕ) (s : Table w t) (room : ℕ) (hr : w + 1 ≤ r
     where
       go : (l : List Msg) → (h .wires a b) .way ≡ l → Sound w t (deliver w room t a b h)
       go [] e = rw (deliver-none h a b e) S
-      go (m ∷ q) e = rw (deliver-one h a b m q e) (hand-sound h a b m q (full-link h a b m q e (S .good)) e S)
+      go (m ∷ q) e = rw (deliver-one h a b m q e) (hand-sound h a b m q (full-link w t h a b m q e (S .good)) e S)

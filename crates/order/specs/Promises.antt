@@ -58,7 +58,7 @@ module _ (w : ℕ) (t : List ℕ) (table : Table w t) (room : ℕ) (wide : w + 1
     pub few-wait : (a b : ℕ) → length ((h .wires a b) .queue) + length ((h .wires a b) .way) ≤ w + 1
     few-wait a b =
         by-bool (mem b (word t a))
-        (λ v. let ha : a < w = links-lt w t table a b v in room-of w t table a (ways w t h a) h ha (good-held w t table room wide h a ha (kept .good)) b v)
+        (λ v. let ha : a < w = links-lt w t table a b v in room-of w t table a (ways w t h a) h ha (good-held w t h a ha (kept .good)) b v)
         (λ v. rw (kept .good .quiet a b v) (omega arith))
 
     -- "sent = moved + under way always."

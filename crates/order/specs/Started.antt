@@ -65,7 +65,7 @@ module _ (w : ℕ) (t : List ℕ) (s : Table w t) (room : ℕ) (hr : w + 1 ≤ r
       go : (l : List Msg) → (h .wires a b) .way ≡ l → Rooted (deliver w room t a b h)
       go [] e = rw (e, deliver) y
       go (m ∷ q) e =
-          let v : mem b (word t a) ≡ true = full-link w t s room hr h a b m q e (S .good) in
+          let v : mem b (word t a) ≡ true = full-link w t h a b m q e (S .good) in
           let r : reached w t x b ≡ true = next-reached a b v (y a (links-lt w t s a b v) (sender-up w t s h (S .good) a b m q v e)) in
           rw (e, deliver) (hand-rooted a b m (start w room t b (popped a b q h)) r (start-rooted b (popped a b q h) r (popped-rooted a b q h y)))
 
