@@ -3,14 +3,15 @@ use Prim.Native.Nat.{ℕ, zero, suc, _*_, _-_, _^_, _≤_, _<_}
 use mathlib.Core.Path.{_≡_, refl, sym, ap, ap₂, _∙_}
 use mathlib.Core.Bool.{Bool, true, false, _&&_, cond}
 use mathlib.Core.List.{List}
+use mathlib.Core.Logic.{_↔_}
 use native.Mathlib.Omega.{arith}
 use lib.Dec.{eqb, ltb}
 use Rattle.rules.specs.Sets.{mem, word, least, count, sum}
-use Rattle.rules.specs.Rest.{Table, hops, together, farthest, reached, isFirst}
+use Rattle.rules.specs.Rest.{Table, Walk, hops, together, farthest, reached, isFirst}
 use Rattle.sets.specs.Mem.{in-lt, and-both}
 use Rattle.sets.specs.Loops.{by-bool, least-hit, any-in, any-out, count-le, count-more, sum-same, sum-none}
 use Rattle.sets.specs.Tables.{eqb-eq, eq-eqb, ne-eqb}
-use Rattle.hops.specs.Hops.{hops-gap, hops-self, hops-zero, hops-sym, hops-step, hops-near, hops-between}
+use Rattle.hops.specs.Hops.{hops-least, hops-gap, hops-self, hops-zero, hops-sym, hops-step, hops-near, hops-between}
 use Rattle.hops.specs.Rest.{far-lt, far-there}
 use Rattle.order.specs.Rounds.{link-lt, and-true}
 use Rattle.order.specs.Send.{lt-ltb, ltb-lt, ge-ltb}
@@ -42,6 +43,17 @@ module _ (w : ℕ) (t : List ℕ) (s : Table w t) where
 
   pub together-trans : (i j k : ℕ) → i < w → together w t i j ≡ true → together w t j k ≡ true → together w t i k ≡ true
   together-trans i j k hi a b = lt-together w t i k (trans-by (hops w t i j) i j k hi refl (together-lt w t i j a) (together-lt w t j k b))
+
+  -- links lead from a box to its group, and nowhere else
+  walk-lt : (n i k : ℕ) → i < w → Walk t n i k → hops w t i k < w
+  walk-lt zero i k hi e = rw (← e) (omega (arith, hops-self w t s i hi))
+  walk-lt (suc n) i k hi (j, v, u) = hops-gap w t s i k hi (omega (arith, hops-step w t s i j k hi v, walk-lt n j k (link-lt w t s i j v) u))
+
+  pub together-walk : (i k : ℕ) → i < w → (together w t i k ≡ true) ↔ ((n : ℕ) × Walk t n i k)
+  together-walk i k hi = (
+    λ e. (hops w t i k, hops-least w t s i k hi (omega (arith, together-lt w t i k e)) .walk),
+    λ x. lt-together w t i k (walk-lt (x .0) i k hi (x .1)),
+  )
 
   -- two boxes of a group see the same group
   pub together-same : (i j : ℕ) → i < w → j < w → together w t i j ≡ true → (k : ℕ) → together w t i k ≡ together w t j k

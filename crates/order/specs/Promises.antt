@@ -14,18 +14,19 @@ use Rattle.rules.specs.Outcome.{Outcome, accepted}
 use Rattle.rules.specs.Box.{Msg, asleep}
 use Rattle.rules.specs.Hub.{Hub, noWire, sleeping, run, drain, startAll, underWay}
 use Rattle.rules.specs.Calls.{checkPairs}
-use Rattle.rules.specs.Rest.{Table, Least, hops, together, from, atRest, wireList, reached, enough}
+use Rattle.rules.specs.Rest.{Table, Walk, Least, hops, together, layer, farthest, from, atRest, wireList, reached, enough}
 use Rattle.sets.specs.Loops.{by-bool}
 use Rattle.hops.specs.Hops.{hops-least, least-hops}
-use Rattle.hops.specs.Rest.{From, from-ok, from-member, from-group}
+use Rattle.hops.specs.Rest.{From, from-ok, from-member, from-group, far-there, far-most}
 use Rattle.order.specs.Terms.{Reached, begin, Names, startsOf, handed, SetsOnly, Final, Alike}
 use Rattle.order.specs.Rounds.{link-lt, links-lt}
 use Rattle.order.specs.Invariant.{Sound, ways}
 use Rattle.order.specs.Reached.{sound, run-reached, starts-reached, drain-reached, checked-names}
 use Rattle.order.specs.Settle.{room-of}
 use Rattle.order.specs.Moves.{good-held}
-use Rattle.order.specs.Rest.{at-rest, sleeps-at, hop-le, three-states, together-lt, lt-together, together-not, nodes-say, lists-say, in-say, in-off, not-say, not-off}
+use Rattle.order.specs.Rest.{at-rest, sleeps-at, hop-le, three-states, together-lt, lt-together, together-not, nodes-are, nodes-say, lists-say, in-say, in-off, not-say, not-off}
 use Rattle.order.specs.End.{under-idle, has-stopped, group-stopped}
+use Rattle.order.specs.Groups.{together-walk}
 use Rattle.order.specs.Lists.{log-begins, log-whole, log-split, ended, late-none, handed-le, handed-never, handed-once}
 use Rattle.order.specs.Drain.{drained, finishes}
 use Rattle.order.specs.Started.{run-final, drain-final, same-end}
@@ -41,9 +42,12 @@ module _ (w : ℕ) (t : List ℕ) (table : Table w t) (room : ℕ) (wide : w + 1
   pub list-checked : {A : Type 0} (n i : ℕ) (l : List ℕ) (o : Outcome A) (x : A) → n ≤ w → checkPairs n t i l o ≡ accepted x → Names w t l
   list-checked n i l o x h e = checked-names w n t i l o x h e .0
 
-  -- "The drain takes a set of boxes to start, ascending, and a budget of messages."
-  pub drain-leads : (x budget : ℕ) (h : Hub) → Reached w room t h → Reached w room t (drain w room t budget (startAll w room t x h))
-  drain-leads x budget h r = drain-reached w room t budget (startAll w room t x h) (starts-reached w room t x h r)
+  -- "The drain takes a set of boxes to start, ascending, and a budget of messages." Both lead to such a hub
+  pub starts-lead : (x : ℕ) (h : Hub) → Reached w room t h → Reached w room t (startAll w room t x h)
+  starts-lead = starts-reached w room t
+
+  pub drain-leads : (budget : ℕ) (h : Hub) → Reached w room t h → Reached w room t (drain w room t budget h)
+  drain-leads = drain-reached w room t
 
   -- ---- at every moment
 
@@ -160,13 +164,13 @@ module _ (w : ℕ) (t : List ℕ) (table : Table w t) (room : ℕ) (wide : w + 1
 
   pub drain-end : (x budget : ℕ) → underWay w (drain w room t budget (startAll w room t x (sleeping w))) ≡ 0
       → Final w t x (drain w room t budget (startAll w room t x (sleeping w)))
-  drain-end x budget e = drain-final w t table room wide (sound w room t table wide begin) x budget (sound w room t table wide (drain-leads x budget (sleeping w) begin)) e
+  drain-end x budget e = drain-final w t table room wide (sound w room t table wide begin) x budget (sound w room t table wide (drain-leads budget (startAll w room t x (sleeping w)) (starts-lead x (sleeping w) begin))) e
 
   -- so a drain of enough budget ends there, whatever was started
   pub drain-all : (n : ℕ) → n ≤ w → ((i : ℕ) → word t i < 2 ^ n) → (x budget : ℕ) → enough w t n ≤ budget
       → Final w t x (drain w room t budget (startAll w room t x (sleeping w)))
   drain-all n hn low x budget l =
-      drain-end x budget (drain-finishes (startAll w room t x (sleeping w)) (starts-reached w room t x (sleeping w) begin) n hn low budget l)
+      drain-end x budget (drain-finishes (startAll w room t x (sleeping w)) (starts-lead x (sleeping w) begin) n hn low budget l)
 
   -- the order of the deliveries leaves no trace: two ends with the same started groups have the same boxes and counts
   pub ends-alike : (x y : ℕ) (g h : Hub) → ((i : ℕ) → i < w → reached w t x i ≡ reached w t y i) → Final w t x g → Final w t y h → Alike w g h
@@ -180,13 +184,27 @@ module _ (w : ℕ) (t : List ℕ) (table : Table w t) (room : ℕ) (wide : w + 1
 -- ---- what the tables at rest say, in demand 2's words
 
 module _ (w : ℕ) (t : List ℕ) (table : Table w t) (i : ℕ) (hi : i < w) where
+  -- "A group is all the boxes that links lead to from one box, itself included."
+  pub group-walks : (k : ℕ) → (together w t i k ≡ true) ↔ ((n : ℕ) × Walk t n i k)
+  group-walks k = together-walk w t table i k hi
+
+  -- "a stopped box I whose farthest group member is e hops away": e is `farthest w t i`
+  pub farthest-there : (k : ℕ) × (k < w) × (hops w t i k ≡ farthest w t i)
+  farthest-there = far-there w t table i hi
+
+  pub farthest-most : (k : ℕ) → k < w → together w t i k ≡ true → hops w t i k ≤ farthest w t i
+  farthest-most k hk e = far-most w t table i hi k hk (together-lt w t i k e)
+
   -- "Nodes(d) is the set of boxes at d hops, the least number of links on any walk."
+  pub nodes-layer : (d : ℕ) → d < w → word ((atRest w t i) .nodes) d ≡ layer w t i d
+  nodes-layer d hd = nodes-are w t i d hd
+
   pub nodes-hops : (d k : ℕ) → d < w → k < w → (mem k (word ((atRest w t i) .nodes) d) ≡ true) ↔ Least t d i k
   nodes-hops d k hd hk =
       let (f, g) = nodes-say w t i d k hd hk in
       (λ m. let e : hops w t i k ≡ d = f m in rw e at (hops-least w t table i k hi (omega arith)), λ l. g (least-hops w t table d i k hi l))
 
-  -- "A group is all the boxes that links lead to from one box, itself included": the box knows exactly its group
+  -- the box knows exactly its group
   pub knows-group : (k : ℕ) → k < w → (together w t i k ≡ true) ↔ ((d : ℕ) × (d < w) × (mem k (word ((atRest w t i) .nodes) d) ≡ true))
   knows-group k hk = (
     λ e. (hops w t i k, together-lt w t i k e, nodes-say w t i (hops w t i k) k (together-lt w t i k e) hk .1 refl),
@@ -200,10 +218,11 @@ module _ (w : ℕ) (t : List ℕ) (table : Table w t) (i : ℕ) (hi : i < w) whe
   -- "In_SPT(J): the origins K, other than I, for which J is the lowest-numbered neighbour one hop nearer to K."
   -- Each other member of the group is in exactly one In_SPT
   pub one-in : (k : ℕ) → k < w → i ≢ k → together w t i k ≡ true
-      → (j : ℕ) × (j < w) × From w t i k j × (mem k (word ((atRest w t i) .inSpt) j) ≡ true) × ((l : ℕ) → l < w → mem k (word ((atRest w t i) .inSpt) l) ≡ true → l ≡ j)
+      → ((from w t i k < w) × From w t i k (from w t i k)) × (mem k (word ((atRest w t i) .inSpt) (from w t i k)) ≡ true)
+      × ((j : ℕ) → j < w → mem k (word ((atRest w t i) .inSpt) j) ≡ true → j ≡ from w t i k)
   one-in k hk z e =
       let hj : from w t i k < w = from-member w t table i k hi (together-lt w t i k e) z in
-      (from w t i k, hj, from-ok w t i k hj, in-say w t i (from w t i k) k hj hk .1 refl, λ l hl m. sym (in-say w t i l k hl hk .0 m))
+      ((hj, from-ok w t i k hj), in-say w t i (from w t i k) k hj hk .1 refl, λ j hl m. sym (in-say w t i j k hl hk .0 m))
 
   -- and nothing else is in any
   pub else-in : (j k : ℕ) → j < w → k < w → mem k (word ((atRest w t i) .inSpt) j) ≡ true → (i ≢ k) × (together w t i k ≡ true) × From w t i k j

@@ -152,11 +152,15 @@ module _ (w : ℕ) (t : List ℕ) where
 
   -- ---- what the tables at rest say
 
-  pub nodes-say : (i d k : ℕ) → d < w → k < w → (mem k (word ((atRest w t i) .nodes) d) ≡ true) ↔ (hops w t i k ≡ d)
+  pub nodes-are : (i d : ℕ) → d < w → word ((atRest w t i) .nodes) d ≡ layer w t i d
   unfolding atRest
-  nodes-say i d k hd hk =
-      let e : word (words w (layer w t i)) d ≡ layer w t i d = getD-words w (layer w t i) d hd in
-      (λ m. in-layer w t i d k (ap (mem k) (sym e) ∙ m), λ z. ap (mem k) e ∙ layer-in w t i d k hk z)
+  nodes-are i d hd = getD-words w (layer w t i) d hd
+
+  pub nodes-say : (i d k : ℕ) → d < w → k < w → (mem k (word ((atRest w t i) .nodes) d) ≡ true) ↔ (hops w t i k ≡ d)
+  nodes-say i d k hd hk = (
+    λ m. in-layer w t i d k (ap (mem k) (sym (nodes-are i d hd)) ∙ m),
+    λ z. ap (mem k) (nodes-are i d hd) ∙ layer-in w t i d k hk z,
+  )
 
   pub lists-say : (i k : ℕ) → k < w → word ((atRest w t i) .neighbors) k ≡ cond (together w t i k) (word t k) 0
   unfolding atRest
