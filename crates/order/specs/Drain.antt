@@ -42,6 +42,17 @@ quiet w h e =
     (λ u. absurd (omega (arith, least-hit w (λ a. any w (holds h a)) a ha (any-in w (holds h a) b hb u) .0)))
     (λ u. none-there ((h .wires a b) .way) u)) ∙ sum-none w) ∙ sum-none w
 
+-- it moves no more than its budget
+pub drain-most : (w room : ℕ) (t : List ℕ) (f : ℕ) (h : Hub) → (drain w room t f h) .moved ≤ h .moved + f
+unfolding drain
+drain-most w room t zero h = omega arith
+drain-most w room t (suc f) h =
+    by-bool (ltb (sender w h) w)
+    (λ e.
+    let (m, q, z) = found w h (ltb-lt (sender w h) w e) in
+    rw e (omega (arith, drain-most w room t f (deliver w room t (sender w h) (receiver w h) h), deliver-moved w room t (sender w h) (receiver w h) m q h z)))
+    (λ e. rw e (omega arith))
+
 module _ (w : ℕ) (t : List ℕ) (s : Table w t) (room : ℕ) (hr : w + 1 ≤ room) where
   -- the drain's end: nothing is under way, or the budget is spent
   pub drained : (f : ℕ) (h : Hub) → Sound w t h → Sound w t (drain w room t f h) × ((underWay w (drain w room t f h) ≡ 0) ⊎ ((drain w room t f h) .moved ≡ h .moved + f))

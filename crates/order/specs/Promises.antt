@@ -28,7 +28,7 @@ use Rattle.order.specs.Rest.{at-rest, sleeps-at, hop-le, three-states, t
 use Rattle.order.specs.End.{under-idle, has-stopped, group-stopped}
 use Rattle.order.specs.Groups.{together-walk}
 use Rattle.order.specs.Lists.{log-begins, log-whole, log-split, ended, late-none, handed-le, handed-never, handed-once}
-use Rattle.order.specs.Drain.{drained, finishes}
+use Rattle.order.specs.Drain.{drain-most, drained, finishes}
 use Rattle.order.specs.Started.{run-final, drain-final, same-end}
 
 module _ (w : ℕ) (t : List ℕ) (table : Table w t) (room : ℕ) (wide : w + 1 ≤ room) where
@@ -150,6 +150,9 @@ module _ (w : ℕ) (t : List ℕ) (table : Table w t) (room : ℕ) (wide : w + 1
     -- "It ends when none is under way or when the messages moved reach the budget"
     pub drain-ends : (budget : ℕ) → (underWay w (drain w room t budget h) ≡ 0) ⊎ ((drain w room t budget h) .moved ≡ h .moved + budget)
     drain-ends budget = drained w t table room wide budget h kept .1
+
+    pub drain-within : (budget : ℕ) → (drain w room t budget h) .moved ≤ h .moved + budget
+    drain-within budget = drain-most w room t budget h
 
     -- "A budget of E(N+2) + N(N-1) always finishes", and so does every larger one
     pub drain-finishes : (n : ℕ) → n ≤ w → ((i : ℕ) → word t i < 2 ^ n) → (budget : ℕ) → enough w t n ≤ budget → underWay w (drain w room t budget h) ≡ 0
