@@ -1,0 +1,124 @@
+// The link sheet: reading it, writing it, and the allowance. Document 01, "The link sheet" and "Numbers given when the hub refuses".
+ghost use mathlib.Core.Path.{_≡_};
+ghost use Prim.Native.Nat.{ℕ, _+_, _-_, _*_, _^_, _<_, _≤_};
+ghost use lib.ListN.{length, getD, replicate};
+ghost use Rattle.rules.specs.Sets.{mem, joinAt};
+ghost use Rattle.rules.specs.Sheet.{link, pairs, readSheet};
+ghost use Rattle.sheet.specs.Answers.{pairNumber, pairsAnswer, ParsedFrom};
+
+// ---- sets and tables
+
+// Whether box k is in the set s.
+fn is_in(s: u16, k: usize) -> bool
+    requires { ⌜ k < 16 ⌝ }
+    ensures { λ r. ⌜ r ≡ mem k s ⌝ }
+{
+    (s >> k) % 2 == 1
+}
+
+// The set of box k alone.
+fn only(k: usize) -> u16
+    requires { ⌜ k < 16 ⌝ }
+    ensures { λ r. ⌜ r ≡ 2 ^ k ⌝ }
+{
+    1u16 << k
+}
+
+// The set s joins entry k of the table.
+fn join_at(t: [u16; 16], k: usize, s: u16) -> [u16; 16]
+    requires { ⌜ k < 16 ⌝ }
+    ensures { λ r. ⌜ r ≡ joinAt t k s ⌝ }
+{
+    let mut out = t;
+    out[k] = out[k] | s;
+    out
+}
+
+// A link joins the table, both ways.
+fn add_link(t: [u16; 16], a: usize, b: usize) -> [u16; 16]
+    requires { ⌜ (a < 16) × (b < 16) ⌝ }
+    ensures { λ r. ⌜ r ≡ link a b t ⌝ }
+{
+    let one_way = join_at(t, a, only(b));
+    join_at(one_way, b, only(a))
+}
+
+// ---- reading
+
+// A byte of the sheet, as a number.
+fn byte_at(s: &[u8], i: usize) -> usize
+    requires { ⌜ i < length (now s) ⌝ }
+    ensures { λ r. ⌜ (r ≡ getD (now (s .entry)) i 0) × (r < 256) ⌝ }
+{
+    s[i] as usize
+}
+
+// The number that the pair (c, d) is refused with, 0 for none; (a, b) is the pair before. "Pair by pair 6 to 8."
+fn pair_number(n: usize, a: usize, b: usize, c: usize, d: usize) -> u32
+    ensures { λ r. ⌜ r ≡ pairNumber n a b c d ⌝ }
+{
+    if n <= c {
+        return 6;
+    }
+    if n <= d {
+        return 6;
+    }
+    if d <= c {
+        return 7;
+    }
+    if a < c {
+        return 0;
+    }
+    if a != c {
+        return 8;
+    }
+    if d <= b {
+        return 8;
+    }
+    0
+}
+
+// What the pairs give: a refusal's number with an empty table, or 0 and the table.
+pub struct Pairs {
+    pub number: u32,
+    pub table: [u16; 16],
+}
+
+// The pair reader: `part` is the part of the sheet that holds the pairs.
+fn read_pairs(n: usize, part: &[u8]) -> Pairs
+    requires { ⌜ n ≤ 16 ⌝ }
+    ensures { λ r. ⌜ r ≡ pairsAnswer (pairs n 0 0 0 (now (part .entry)) (replicate 16 0)) ⌝ }
+{
+    let mut t = [0u16; 16];
+    let mut a: usize = 0;
+    let mut b: usize = 0;
+    let mut i: usize = 0;
+    while i + 1 < part.len() {
+        let c = byte_at(part, i);
+        let d = byte_at(part, i + 1);
+        let number = pair_number(n, a, b, c, d);
+        if number != 0 {
+            return Pairs {
+                number: number,
+                table: [0u16; 16],
+            };
+        }
+        let next = add_link(t, c, d);
+        t = next;
+        a = c;
+        b = d;
+        i = i + 2;
+    }
+    Pairs {
+        number: 0,
+        table: t,
+    }
+}
+
+// A sheet: 0, N, P and the link set of each box; or the number that it is refused with, and zeros.
+pub struct Parsed {
+    pub number: u32,
+    pub boxes: usize,
+    pub links: usize,
+    pub table: [u16; 16],
+}
