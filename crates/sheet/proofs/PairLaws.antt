@@ -3,7 +3,7 @@
 use Prim.Native.Nat.{ℕ, zero, suc, _+_, _/_, _<_, _≤_}
 use native.Mathlib.Omega.{arith}
 use native.Mathlib.Numerals.{add-one}
-use mathlib.Core.Path.{_≡_, refl, sym, _∙_}
+use mathlib.Core.Path.{_≡_, refl, sym, ap, _∙_}
 use mathlib.Core.Bool.{Bool, true, false, not, _&&_, _||_, cond}
 use mathlib.Core.List.{List, [], _∷_}
 use lib.Dec.{leb}
@@ -12,7 +12,8 @@ use lib.Seq.{drop-cons}
 use borrow.Author.Tests.{lt-leb, leb-false}
 use Rattle.rules.specs.Outcome.{Outcome, refused, accepted, refuse}
 use Rattle.rules.specs.Sheet.{above, link, pairs}
-use Rattle.sheet.specs.Answers.{pairNumber}
+use Rattle.sheet.specs.declared.Pairs.{Pairs}
+use Rattle.sheet.specs.Answers.{pairNumber, pairsAnswer}
 
 -- ---- three tests in a row
 
@@ -83,3 +84,33 @@ short n k a b (c ∷ d ∷ l) t h = absurd (omega arith)
 
 pub ends : (n k a b i : ℕ) (part t : List ℕ) → length part ≤ i + 1 → pairs n k a b (drop i part) t ≡ accepted t
 ends n k a b i part t h = short n k a b (drop i part) t (simp length-drop (omega arith))
+
+-- ---- back from the reader's answer to the rules' outcome: no refusal has the number 0
+
+abbrev pub Numbered : {A : Type 0} → Outcome A → Type 0
+Numbered (refused k p) = 1 ≤ k
+Numbered (accepted a) = Unit {0}
+
+pub refuse-numbered : {A : Type 0} (x : Bool) (k p : ℕ) (o : Outcome A) → 1 ≤ k → Numbered o → Numbered (refuse x k p o)
+unfolding refuse
+refuse-numbered true k p o l m = l
+refuse-numbered false k p o l m = m
+
+pub pairs-numbered : (n i a b : ℕ) (l t : List ℕ) → Numbered (pairs n i a b l t)
+unfolding pairs
+pairs-numbered n i a b [] t = tt
+pairs-numbered n i a b (c ∷ []) t = tt
+pairs-numbered n i a b (c ∷ d ∷ l) t =
+    refuse-numbered _ 6 i _ (omega arith)
+    (refuse-numbered _ 7 i _ (omega arith) (refuse-numbered _ 8 i _ (omega arith) (pairs-numbered n (suc i) c d l (link c d t))))
+
+module _ (q : Pairs) where
+  pub was-accepted : (o : Outcome (List ℕ)) → Numbered o → q ≡ pairsAnswer o → q .number ≡ 0 → o ≡ accepted (q .table)
+  unfolding pairsAnswer
+  was-accepted (refused k p) m e z = let y : k ≡ 0 = sym (ap (λ (x : Pairs). x .number) e) ∙ z in absurd (omega arith)
+  was-accepted (accepted t) m e z = rw e
+
+  pub was-refused : (o : Outcome (List ℕ)) → q ≡ pairsAnswer o → (q .number ≡ 0 → ⊥) → (p : ℕ) × (o ≡ refused (q .number) p)
+  unfolding pairsAnswer
+  was-refused (refused k p) e f = (p, rw e)
+  was-refused (accepted t) e f = absurd (f (ap (λ (x : Pairs). x .number) e))

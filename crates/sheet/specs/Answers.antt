@@ -7,8 +7,11 @@ use lib.Dec.{leb}
 use lib.ListN.{replicate}
 use Rattle.rules.specs.Outcome.{Outcome, refused, accepted}
 use Rattle.rules.specs.Sheet.{Sheet, above, readSheet}
+use Rattle.rules.specs.Calls.{Read as ReadAnswer, Allowed as AllowedAnswer}
+use Rattle.sheet.specs.declared.Allowed.{Allowed}
 use Rattle.sheet.specs.declared.Pairs.{Pairs}
 use Rattle.sheet.specs.declared.Parsed.{Parsed}
+use Rattle.sheet.specs.declared.Read.{Read}
 
 -- the number that the pair (c, d) is refused with after (a, b), 0 where it is not
 unfoldable pub pairNumber : ℕ → ℕ → ℕ → ℕ → ℕ → ℕ
@@ -22,9 +25,13 @@ unfoldable pub pairsAnswer : Outcome (List ℕ) → Pairs
 pairsAnswer (refused n p) = record { number = n; table = noLinks }
 pairsAnswer (accepted t) = record { number = 0; table = t }
 
+-- a refusal's number, and zeros
+abbrev pub noSheet : ℕ → Parsed
+noSheet n = record { number = n; boxes = 0; links = 0; table = noLinks }
+
 -- 0 and the sheet where it is accepted; the refusal's number and zeros where it is not
 unfoldable pub parsedAnswer : Outcome Sheet → Parsed
-parsedAnswer (refused n p) = record { number = n; boxes = 0; links = 0; table = noLinks }
+parsedAnswer (refused n p) = noSheet n
 parsedAnswer (accepted r) = record { number = 0; boxes = r .boxes; links = r .links; table = r .table }
 
 -- What `parse` gives: the sheet as the rules read it. The bounds follow from that, and are what its callers compute with.
@@ -33,3 +40,11 @@ pub record ParsedFrom (sheet : List ℕ) (r : Parsed) : Type 0 where
   pub boxes-some : r .number ≡ 0 → 1 ≤ r .boxes
   pub boxes-most : r .boxes ≤ 16
   pub links-most : r .links ≤ 120
+
+-- ---- a call's answer, with what it leaves in the lent words, as the rules have it
+
+abbrev pub readOf : Read → List ℕ → ReadAnswer
+readOf r table = record { number = r .number; boxes = r .boxes; links = r .links; table = table }
+
+abbrev pub allowedOf : Allowed → AllowedAnswer
+allowedOf r = record { number = r .number; identities = r .identities }

@@ -4,7 +4,8 @@ ghost use Prim.Native.Nat.{ℕ, _+_, _-_, _*_, _^_, _<_, _≤_};
 ghost use lib.ListN.{length, getD, replicate};
 ghost use Rattle.rules.specs.Sets.{mem, joinAt};
 ghost use Rattle.rules.specs.Sheet.{link, pairs, readSheet};
-ghost use Rattle.sheet.specs.Answers.{pairNumber, pairsAnswer, ParsedFrom};
+ghost use Rattle.rules.specs.Calls.{readCall, allowanceCall};
+ghost use Rattle.sheet.specs.Answers.{pairNumber, pairsAnswer, noSheet, ParsedFrom, readOf, allowedOf};
 
 // ---- sets and tables
 
@@ -121,4 +122,134 @@ pub struct Parsed {
     pub boxes: usize,
     pub links: usize,
     pub table: [u16; 16],
+}
+
+// A refusal's number, and zeros.
+fn no_sheet(number: u32) -> Parsed
+    ensures { λ r. ⌜ r ≡ noSheet number ⌝ }
+{
+    Parsed {
+        number: number,
+        boxes: 0,
+        links: 0,
+        table: [0u16; 16],
+    }
+}
+
+// The sheet is read from its end: the trailer is B, P, N, version. B cuts the part with the pairs from the sheet's middle.
+pub fn parse(sheet: &[u8]) -> Parsed
+    ensures { λ r. ⌜ ParsedFrom (now (sheet .entry)) r ⌝ }
+{
+    let end = sheet.len();
+    if end < 4 {
+        return no_sheet(1);
+    }
+    let to = end - 4;
+    let b = byte_at(sheet, to);
+    let p = byte_at(sheet, end - 3);
+    let n = byte_at(sheet, end - 2);
+    let version = byte_at(sheet, end - 1);
+    if version != 1 {
+        return no_sheet(2);
+    }
+    if n == 0 {
+        return no_sheet(3);
+    }
+    if 16 < n {
+        return no_sheet(3);
+    }
+    if 120 < p {
+        return no_sheet(4);
+    }
+    if b != 4 + 2 * p {
+        return no_sheet(5);
+    }
+    if end < b {
+        return no_sheet(5);
+    }
+    let from = end - b;
+    let read = read_pairs(n, &sheet[from..to]);
+    if read.number != 0 {
+        return no_sheet(read.number);
+    }
+    let t = read.table;
+    Parsed {
+        number: 0,
+        boxes: n,
+        links: p,
+        table: t,
+    }
+}
+
+// What reading answers: 0, N and P; or the number that it is refused with, and zeros.
+pub struct Read {
+    pub number: u32,
+    pub boxes: u32,
+    pub links: u32,
+}
+
+// The 16 words of a table, to a lent one.
+fn put_table(t: [u16; 16], table: &mut [u16])
+    requires { ⌜ length (now table) ≡ 16 ⌝ }
+    ensures { λ _. ⌜ now (table .exit) ≡ t ⌝ }
+{
+    for k in 0..16 {
+        table[k] = t[k];
+    }
+}
+
+// Reads a sheet into a lent table of 16 words, the link set of each box. A refusal leaves the table as it was.
+pub fn read(sheet: &[u8], table: &mut [u16]) -> Read
+    ensures { λ r. ⌜ readOf r (now (table .exit)) ≡ readCall (now (sheet .entry)) (now (table .entry)) ⌝ }
+{
+    let found = parse(sheet);
+    let number = found.number;
+    if number != 0 {
+        return Read {
+            number: number,
+            boxes: 0,
+            links: 0,
+        };
+    }
+    if table.len() != 16 {
+        return Read {
+            number: 12,
+            boxes: 0,
+            links: 0,
+        };
+    }
+    let t = found.table;
+    put_table(t, table);
+    Read {
+        number: 0,
+        boxes: found.boxes as u32,
+        links: found.links as u32,
+    }
+}
+
+// ---- the allowance
+
+pub struct Allowed {
+    pub number: u32,
+    pub identities: u32,
+}
+
+// "The identities a full broadcast sends: E × (2N - 1), 0 for no links. At refusal it is 0." A link makes two wires.
+pub fn allowance(sheet: &[u8]) -> Allowed
+    ensures { λ r. ⌜ allowedOf r ≡ allowanceCall (now (sheet .entry)) ⌝ }
+{
+    let found = parse(sheet);
+    let number = found.number;
+    if number != 0 {
+        return Allowed {
+            number: number,
+            identities: 0,
+        };
+    }
+    let wires = 2 * (found.links as u32);
+    let boxes = found.boxes as u32;
+    Allowed {
+        number: 0,
+        identities: wires * (2 * boxes - 1),
+    }
 }
