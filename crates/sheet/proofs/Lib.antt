@@ -1,2 +1,4 @@
+pub mod CallLaws
+pub mod ListLaws
 pub mod PairLaws
 pub mod SheetLaws

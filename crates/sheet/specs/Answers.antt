@@ -7,11 +7,11 @@ use lib.Dec.{leb}
 use lib.ListN.{replicate}
 use Rattle.rules.specs.Outcome.{Outcome, refused, accepted}
 use Rattle.rules.specs.Sheet.{Sheet, above, readSheet}
-use Rattle.rules.specs.Calls.{Read as ReadAnswer, Allowed as AllowedAnswer}
+use Rattle.rules.specs.Calls.{Read, Allowed as AllowedAnswer}
 use Rattle.sheet.specs.declared.Allowed.{Allowed}
 use Rattle.sheet.specs.declared.Pairs.{Pairs}
 use Rattle.sheet.specs.declared.Parsed.{Parsed}
-use Rattle.sheet.specs.declared.Read.{Read}
+use Rattle.sheet.specs.declared.Reading.{Reading}
 
 -- the number that the pair (c, d) is refused with after (a, b), 0 where it is not
 unfoldable pub pairNumber : ℕ → ℕ → ℕ → ℕ → ℕ → ℕ
@@ -43,7 +43,7 @@ pub record ParsedFrom (sheet : List ℕ) (r : Parsed) : Type 0 where
 
 -- ---- a call's answer, with what it leaves in the lent words, as the rules have it
 
-abbrev pub readOf : Read → List ℕ → ReadAnswer
+abbrev pub readOf : Reading → List ℕ → Read
 readOf r table = record { number = r .number; boxes = r .boxes; links = r .links; table = table }
 
 abbrev pub allowedOf : Allowed → AllowedAnswer

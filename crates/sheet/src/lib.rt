@@ -182,7 +182,7 @@ pub fn parse(sheet: &[u8]) -> Parsed
 }
 
 // What reading answers: 0, N and P; or the number that it is refused with, and zeros.
-pub struct Read {
+pub struct Reading {
     pub number: u32,
     pub boxes: u32,
     pub links: u32,
@@ -199,20 +199,20 @@ fn put_table(t: [u16; 16], table: &mut [u16])
 }
 
 // Reads a sheet into a lent table of 16 words, the link set of each box. A refusal leaves the table as it was.
-pub fn read(sheet: &[u8], table: &mut [u16]) -> Read
+pub fn read(sheet: &[u8], table: &mut [u16]) -> Reading
     ensures { λ r. ⌜ readOf r (now (table .exit)) ≡ readCall (now (sheet .entry)) (now (table .entry)) ⌝ }
 {
     let found = parse(sheet);
     let number = found.number;
     if number != 0 {
-        return Read {
+        return Reading {
             number: number,
             boxes: 0,
             links: 0,
         };
     }
     if table.len() != 16 {
-        return Read {
+        return Reading {
             number: 12,
             boxes: 0,
             links: 0,
@@ -220,7 +220,7 @@ pub fn read(sheet: &[u8], table: &mut [u16]) -> Read
     }
     let t = found.table;
     put_table(t, table);
-    Read {
+    Reading {
         number: 0,
         boxes: found.boxes as u32,
         links: found.links as u32,
