@@ -1,4 +1,7 @@
 pub mod CallLaws
 pub mod ListLaws
+pub mod LoopLaws
 pub mod PairLaws
 pub mod SheetLaws
+pub mod WriteCallLaws
+pub mod WriteLaws

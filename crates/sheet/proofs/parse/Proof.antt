@@ -1,7 +1,7 @@
 -- `parse` meets its contract: at each `return` the tests on the way decide those of `readSheet`. Assumes nothing.
 use borrow.Author.Needs.{needs}
 use native.Mathlib.Omega.{arith}
-use mathlib.Core.Path.{_≡_, refl}
+use mathlib.Core.Path.{refl}
 use denote.Ref.{now}
 use Rattle.sheet.proofs.SheetLaws.{Trailer, refusing, short, refuses-2, refuses-none, refuses-3, refuses-4, refuses-5, refuses-beyond, refuses-pair, accepts}
 use Rattle.sheet.proofs.parse.Statement.{statement}

@@ -2,11 +2,11 @@
 -- and the table so far. The measure is what is left. Assumes nothing.
 use borrow.Author.Needs.{needs}
 use native.Mathlib.Omega.{arith}
-use Prim.Native.Nat.{_+_, _-_, _/_, _<_, _≤_}
-use mathlib.Core.Path.{_≡_, refl, sym, _∙_, ap}
-use lib.ListN.{length, getD, drop, replicate}
+use Prim.Native.Nat.{_-_, _/_, _≤_}
+use mathlib.Core.Path.{_≡_, sym, _∙_}
+use lib.ListN.{length, drop, replicate}
 use Rattle.rules.specs.Sheet.{pairs}
-use Rattle.sheet.specs.Answers.{pairNumber, pairsAnswer}
+use Rattle.sheet.specs.Answers.{pairsAnswer}
 use Rattle.sheet.proofs.PairLaws.{in-range, goes-on, stops, ends}
 use Rattle.sheet.proofs.read_pairs.Statement.{statement}
 use Rattle.sheet.proofs.read_pairs.Tie as tie
