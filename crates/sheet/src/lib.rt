@@ -1,6 +1,6 @@
 // The link sheet: reading it, writing it, and the allowance. Document 01, "The link sheet" and "Numbers given when the hub refuses".
 ghost use mathlib.Core.Path.{_≡_};
-ghost use Prim.Native.Nat.{ℕ, _+_, _-_, _*_, _^_, _<_, _≤_};
+ghost use Prim.Native.Nat.{_+_, _*_, _^_, _<_, _≤_};
 ghost use mathlib.Core.List.{[], _∷_};
 ghost use lib.ListN.{length, getD, replicate};
 ghost use lib.Seq.{sets};
@@ -83,9 +83,9 @@ fn pair_number(n: usize, a: usize, b: usize, c: usize, d: usize) -> u32
 }
 
 // What the pairs give: a refusal's number with an empty table, or 0 and the table.
-pub struct Pairs {
-    pub number: u32,
-    pub table: [u16; 16],
+struct Pairs {
+    number: u32,
+    table: [u16; 16],
 }
 
 // The pair reader: `part` is the part of the sheet that holds the pairs.
@@ -287,6 +287,7 @@ fn link_proper(n: usize, t: &[u16], i: usize, j: usize) -> bool
     j < n
 }
 
+// All that stands in the link set of box i is proper.
 fn row_proper(n: usize, t: &[u16], i: usize) -> bool
     requires { ⌜ (length (now t) ≡ 16) × (i < 16) ⌝ }
     ensures { λ r. ⌜ r ≡ all 16 (linkProper n (now (t .entry)) i) ⌝ }
@@ -299,6 +300,7 @@ fn row_proper(n: usize, t: &[u16], i: usize) -> bool
     true
 }
 
+// "Not the same both ways, a box linked to itself, or a box of N or above": none of it is in the table.
 fn table_proper(n: usize, t: &[u16]) -> bool
     requires { ⌜ length (now t) ≡ 16 ⌝ }
     ensures { λ r. ⌜ r ≡ all 16 (λ i. all 16 (linkProper n (now (t .entry)) i)) ⌝ }

@@ -1,7 +1,7 @@
 -- `allowance` meets its contract, from what `parse` ensures. Assumes nothing.
 use borrow.Author.Needs.{needs}
 use native.Mathlib.Omega.{arith}
-use Rattle.sheet.proofs.CallLaws.{allowance-refused, allowance-done, allowance-most}
+use Rattle.sheet.proofs.CallLaws.{allowance-refused, allowance-done, fits-small}
 use Rattle.sheet.proofs.allowance.Statement.{statement}
 use Rattle.sheet.proofs.allowance.Tie as tie
 
@@ -27,7 +27,7 @@ sub-t8 : tie.Need-sub-t8
 sub-t8 c = let h = c .before .before .before .parse .ensures .boxes-some (c .before .before .if1 .left) in omega arith
 
 mul-t9 : tie.Need-mul-t9
-mul-t9 c = let h = allowance-most (c .before .before .before .parse .ensures) in omega arith
+mul-t9 c = fits-small (omega arith) (omega arith)
 
 returns-2 : tie.Need-returns-2
 returns-2 c = allowance-done (c .before .before .before .parse .ensures) (c .before .before .if1 .left)
