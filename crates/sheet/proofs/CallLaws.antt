@@ -4,9 +4,9 @@ use native.Mathlib.Omega.{arith}
 use native.Mathlib.Nat.{mul-le-mul}
 use mathlib.Core.Path.{_≡_}
 use mathlib.Core.List.{List}
-use lib.ListN.{length}
 use mir.Syntax.{w32}
 use mir.Val.{Fits}
+use lib.ListN.{length}
 use borrow.Author.Tests.{eq-eqb, ne-eqb}
 use Rattle.rules.specs.Outcome.{refuse, andThen}
 use Rattle.rules.specs.Calls.{Read, Allowed, reading, readAnswer, readCall, allowanceAnswer, allowanceCall}

@@ -14,27 +14,19 @@ use Rattle.rules.specs.Outcome.{Outcome, refused, accepted, refuse}
 use Rattle.rules.specs.Sheet.{above, link, pairs}
 use Rattle.sheet.specs.declared.Pairs.{Pairs}
 use Rattle.sheet.specs.Answers.{pairNumber, pairsAnswer}
+use Rattle.sheet.proofs.RefusalLaws.{passes, stays, Numbered, refuse-numbered}
 
 -- ---- three tests in a row
 
 abbrev number : Bool → Bool → Bool → ℕ
 number x y z = cond x 6 (cond y 7 (cond z 8 0))
 
-module _ {A : Type 0} (i : ℕ) (o : Outcome A) where
-  none : (x y z : Bool) → number x y z ≡ 0 → refuse x 6 i (refuse y 7 i (refuse z 8 i o)) ≡ o
-  unfolding refuse
-  none true y z e = absurd (omega arith)
-  none false true z e = absurd (omega arith)
-  none false false true e = absurd (omega arith)
-  none false false false e = refl
+module _ {A : Type 0} (i : ℕ) (o : Outcome A) (x y z : Bool) where
+  none : number x y z ≡ 0 → refuse x 6 i (refuse y 7 i (refuse z 8 i o)) ≡ o
+  none = passes i x 6 (cond y 7 (cond z 8 0)) o _ (omega arith) (passes i y 7 (cond z 8 0) o _ (omega arith) (passes i z 8 0 o o (omega arith) (λ e. refl)))
 
-  some : (x y z : Bool) → (number x y z ≡ 0 → ⊥)
-      → refuse x 6 i (refuse y 7 i (refuse z 8 i o)) ≡ refused (number x y z) i
-  unfolding refuse
-  some true y z f = refl
-  some false true z f = refl
-  some false false true f = refl
-  some false false false f = absurd (f refl)
+  some : (number x y z ≡ 0 → ⊥) → refuse x 6 i (refuse y 7 i (refuse z 8 i o)) ≡ refused (number x y z) i
+  some = stays i x 6 (cond y 7 (cond z 8 0)) _ (stays i y 7 (cond z 8 0) _ (stays i z 8 0 o (λ f. absurd (f refl))))
 
 below : (n c d : ℕ) (y z : Bool) → number (leb n c || leb n d) y z ≡ 0 → (c < n) × (d < n)
 below n c d y z e = go (leb n c) (leb n d) refl refl e
@@ -86,15 +78,6 @@ pub ends : (n k a b i : ℕ) (part t : List ℕ) → length part ≤ i + 1 → p
 ends n k a b i part t h = short n k a b (drop i part) t (simp length-drop (omega arith))
 
 -- ---- back from the reader's answer to the rules' outcome: no refusal has the number 0
-
-abbrev pub Numbered : {A : Type 0} → Outcome A → Type 0
-Numbered (refused k p) = 1 ≤ k
-Numbered (accepted a) = Unit {0}
-
-pub refuse-numbered : {A : Type 0} (x : Bool) (k p : ℕ) (o : Outcome A) → 1 ≤ k → Numbered o → Numbered (refuse x k p o)
-unfolding refuse
-refuse-numbered true k p o l m = l
-refuse-numbered false k p o l m = m
 
 pub pairs-numbered : (n i a b : ℕ) (l t : List ℕ) → Numbered (pairs n i a b l t)
 unfolding pairs

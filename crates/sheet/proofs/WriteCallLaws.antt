@@ -42,18 +42,29 @@ module _ (n : ℕ) (t b : List ℕ) where
         unfolding writeCall writeAnswer writeSheet refuse proper
         write-improper f = rw (ne-eqb n 0 some, le-ltb 16 n e3, eq-eqb (length t) 16 e16, f)
 
-        module _ (ok : all 16 (λ i. all 16 (linkProper n t i)) ≡ true) (p : ℕ) (ep : p ≡ linkCount 16 t) where
-          pub write-no-room : length b < 4 + 2 * p → _≡_ {A = Written} (record { number = 15; size = 0; buffer = b }) (writeCall n t b)
-          unfolding writeCall writeAnswer writeSheet refuse proper
-          write-no-room l = rw (ne-eqb n 0 some, le-ltb 16 n e3, eq-eqb (length t) 16 e16, ok, ← ep, lt-ltb (length b) (4 + 2 * p) l)
+-- what holds of N and the table where neither 3 nor 14 is given
+pub record Writable (n : ℕ) (t : List ℕ) : Type 0 where
+  pub boxes-some : n ≡ 0 → ⊥
+  pub boxes-most : n ≤ 16
+  pub words : length t ≡ 16
+  pub links-proper : all 16 (λ i. all 16 (linkProper n t i)) ≡ true
 
-          pub write-done : 4 + 2 * p ≤ length b → (at : ℕ) (links whole : List ℕ) → at ≡ length (linkBytes 16 t) → links ≡ sets b 0 (linkBytes 16 t)
-              → whole ≡ sets links at ((4 + 2 * p) ∷ p ∷ n ∷ 1 ∷ []) → _≡_ {A = Written} (record { number = 0; size = 4 + 2 * p; buffer = whole }) (writeCall n t b)
-          unfolding writeCall writeAnswer writeSheet refuse proper sheetBytes
-          write-done l at links whole ea el ew =
-              let trailer : List ℕ = (4 + 2 * p) ∷ p ∷ n ∷ 1 ∷ [] in
-              let s : 4 + 2 * p ≡ length (linkBytes 16 t ++ trailer) = omega (arith, length-append (linkBytes 16 t) trailer, bytes-length t) in
-              let w : whole ≡ (linkBytes 16 t ++ trailer) ++ drop (length (linkBytes 16 t ++ trailer)) b =
-              rw (ew, el, ea) (stored-both (linkBytes 16 t) trailer b (omega (arith, bytes-length t))) in
-              rw (ne-eqb n 0 some, le-ltb 16 n e3, eq-eqb (length t) 16 e16, ok, ← ep, le-ltb (length b) (4 + 2 * p) l)
-              (λ i. record { number = 0; size = s i; buffer = w i })
+module _ {n : ℕ} {t : List ℕ} (b : List ℕ) (h : Writable n t) (p : ℕ) (ep : p ≡ linkCount 16 t) where
+  pub write-no-room : length b < 4 + 2 * p → _≡_ {A = Written} (record { number = 15; size = 0; buffer = b }) (writeCall n t b)
+  unfolding writeCall writeAnswer writeSheet refuse proper
+  write-no-room l =
+      rw
+      (ne-eqb n 0 (h .boxes-some), le-ltb 16 n (h .boxes-most), eq-eqb (length t) 16 (h .words), h .links-proper, ← ep, lt-ltb (length b) (4 + 2 * p) l)
+
+  -- the pairs are stored, then the trailer after them
+  pub write-done : 4 + 2 * p ≤ length b → (at : ℕ) (links whole : List ℕ) → at ≡ length (linkBytes 16 t) → links ≡ sets b 0 (linkBytes 16 t)
+      → whole ≡ sets links at ((4 + 2 * p) ∷ p ∷ n ∷ 1 ∷ []) → _≡_ {A = Written} (record { number = 0; size = 4 + 2 * p; buffer = whole }) (writeCall n t b)
+  unfolding writeCall writeAnswer writeSheet refuse proper sheetBytes
+  write-done l at links whole ea el ew =
+      let trailer : List ℕ = (4 + 2 * p) ∷ p ∷ n ∷ 1 ∷ [] in
+      let s : 4 + 2 * p ≡ length (linkBytes 16 t ++ trailer) = omega (arith, length-append (linkBytes 16 t) trailer, bytes-length t) in
+      let w : whole ≡ (linkBytes 16 t ++ trailer) ++ drop (length (linkBytes 16 t ++ trailer)) b =
+      rw (ew, el, ea) (stored-both (linkBytes 16 t) trailer b (omega (arith, bytes-length t))) in
+      rw
+      (ne-eqb n 0 (h .boxes-some), le-ltb 16 n (h .boxes-most), eq-eqb (length t) 16 (h .words), h .links-proper, ← ep, le-ltb (length b) (4 + 2 * p) l)
+      (λ i. record { number = 0; size = s i; buffer = w i })

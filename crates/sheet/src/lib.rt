@@ -7,7 +7,7 @@ ghost use lib.Seq.{sets};
 ghost use Rattle.rules.specs.Sets.{mem, word, joinAt, all, count};
 ghost use Rattle.rules.specs.Sheet.{link, pairs, linkBytes, linkCount};
 ghost use Rattle.rules.specs.Calls.{readCall, writeCall, allowanceCall};
-ghost use Rattle.sheet.specs.Answers.{pairNumber, pairsAnswer, noSheet, ParsedFrom, readOf, writtenOf, allowedOf};
+ghost use Rattle.sheet.specs.Answers.{pairNumber, pairsAnswer, trailerNumber, Trailed, noSheet, ParsedFrom, readOf, writtenOf, allowedOf};
 ghost use Rattle.sheet.specs.Writing.{linkProper, isLink, pairOf, rowBytes};
 
 // ---- sets and tables
@@ -139,6 +139,31 @@ fn no_sheet(number: u32) -> Parsed
     }
 }
 
+// The number that the trailer of a sheet of `end` bytes is refused with, 0 for none: "The order is the table's", here 2 to 5.
+fn trailer_number(end: usize, b: usize, p: usize, n: usize, version: usize) -> u32
+    ensures { λ r. ⌜ (r ≡ trailerNumber end b p n version) × (r ≡ 0 → Trailed end b p n) ⌝ }
+{
+    if version != 1 {
+        return 2;
+    }
+    if n == 0 {
+        return 3;
+    }
+    if 16 < n {
+        return 3;
+    }
+    if 120 < p {
+        return 4;
+    }
+    if b != 4 + 2 * p {
+        return 5;
+    }
+    if end < b {
+        return 5;
+    }
+    0
+}
+
 // The sheet is read from its end: the trailer is B, P, N, version. B cuts the part with the pairs from the sheet's middle.
 pub fn parse(sheet: &[u8]) -> Parsed
     ensures { λ r. ⌜ ParsedFrom (now (sheet .entry)) r ⌝ }
@@ -152,23 +177,9 @@ pub fn parse(sheet: &[u8]) -> Parsed
     let p = byte_at(sheet, end - 3);
     let n = byte_at(sheet, end - 2);
     let version = byte_at(sheet, end - 1);
-    if version != 1 {
-        return no_sheet(2);
-    }
-    if n == 0 {
-        return no_sheet(3);
-    }
-    if 16 < n {
-        return no_sheet(3);
-    }
-    if 120 < p {
-        return no_sheet(4);
-    }
-    if b != 4 + 2 * p {
-        return no_sheet(5);
-    }
-    if end < b {
-        return no_sheet(5);
+    let number = trailer_number(end, b, p, n, version);
+    if number != 0 {
+        return no_sheet(number);
     }
     let from = end - b;
     let read = read_pairs(n, &sheet[from..to]);

@@ -1,6 +1,6 @@
 -- `allowance` meets its contract, from what `parse` ensures. Assumes nothing.
-use borrow.Author.Needs.{needs}
 use native.Mathlib.Omega.{arith}
+use borrow.Author.Needs.{needs}
 use Rattle.sheet.proofs.CallLaws.{allowance-refused, allowance-done, fits-small}
 use Rattle.sheet.proofs.allowance.Statement.{statement}
 use Rattle.sheet.proofs.allowance.Tie as tie

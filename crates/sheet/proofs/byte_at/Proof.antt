@@ -1,7 +1,7 @@
 -- `byte_at` meets its contract; the slice's own rule bounds its byte. Assumes nothing.
-use borrow.Author.Needs.{needs}
 use native.Mathlib.Omega.{arith}
 use mathlib.Core.Path.{refl}
+use borrow.Author.Needs.{needs}
 use Rattle.sheet.proofs.byte_at.Statement.{statement}
 use Rattle.sheet.proofs.byte_at.Tie as tie
 

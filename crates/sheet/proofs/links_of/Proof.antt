@@ -1,9 +1,9 @@
 -- `links_of` meets its contract. The loop's invariant: k counts the links of the rows passed. Assumes nothing.
-use borrow.Author.Needs.{needs}
+use Prim.Native.Nat.{_≤_, _-_, _*_}
 use native.Mathlib.Omega.{arith}
 use native.Mathlib.Numerals.{add-one}
-use Prim.Native.Nat.{_≤_, _-_, _*_}
 use mathlib.Core.Path.{_≡_, refl}
+use borrow.Author.Needs.{needs}
 use Rattle.rules.specs.Sets.{sum, count}
 use Rattle.rules.specs.Sheet.{linkCount}
 use Rattle.sheet.specs.Writing.{isLink}

@@ -1,9 +1,9 @@
 -- `only` meets its contract: a box below 16 has its place in 16 digits, so nothing is shifted out. Assumes nothing.
-use borrow.Author.Needs.{needs}
 use native.Mathlib.Omega.{arith}
 use native.Mathlib.Nat.{one-mul}
 use mathlib.Core.Path.{_∙_}
 use lib.Pow.{shl-exact}
+use borrow.Author.Needs.{needs}
 use Rattle.sheet.proofs.only.Statement.{statement}
 use Rattle.sheet.proofs.only.Tie as tie
 

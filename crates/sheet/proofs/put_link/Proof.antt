@@ -1,6 +1,6 @@
 -- `put_link` meets its contract, from what `is_link` and `put_pair` ensure. Assumes nothing.
-use mathlib.Core.Path.{refl, sym, _∙_}
 use native.Mathlib.Nat.{add-zero}
+use mathlib.Core.Path.{refl, sym, _∙_}
 use borrow.Author.Needs.{needs}
 use Rattle.sheet.proofs.put_link.Statement.{statement}
 use Rattle.sheet.proofs.put_link.Tie as tie

@@ -1,9 +1,9 @@
 -- `put_links` meets its contract. The loop's invariant: the rows passed are stored. Assumes nothing.
-use borrow.Author.Needs.{needs}
-use native.Mathlib.Omega.{arith}
 use Prim.Native.Nat.{_≤_, _-_}
-use mathlib.Core.Path.{_≡_, _∙_}
+use native.Mathlib.Omega.{arith}
 use native.Mathlib.Nat.{zero-add}
+use mathlib.Core.Path.{_≡_, _∙_}
+use borrow.Author.Needs.{needs}
 use Rattle.rules.specs.Sheet.{linkBytes}
 use Rattle.sheet.specs.Writing.{rowBytes}
 use Rattle.sheet.proofs.WriteLaws.{Stored, stored-none, stored-length, stored-room, stored-next}

@@ -1,8 +1,8 @@
 -- `put_row` meets its contract. The loop's invariant: the pairs passed are stored. Assumes nothing.
-use borrow.Author.Needs.{needs}
-use native.Mathlib.Omega.{arith}
 use Prim.Native.Nat.{_≤_, _-_}
+use native.Mathlib.Omega.{arith}
 use mathlib.Core.Path.{_≡_}
+use borrow.Author.Needs.{needs}
 use Rattle.sheet.specs.Writing.{pairOf}
 use Rattle.sheet.proofs.WriteLaws.{Stored, stored-none, stored-length, stored-room, stored-next}
 use Rattle.sheet.proofs.put_row.Statement.{statement}

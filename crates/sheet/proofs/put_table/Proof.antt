@@ -1,11 +1,11 @@
 -- `put_table` meets its contract. The loop's invariant: the first k words of t are copied. Assumes nothing.
-use borrow.Author.Needs.{needs}
+use Prim.Native.Nat.{_≤_, _-_}
 use native.Mathlib.Omega.{arith}
 use native.Mathlib.Numerals.{add-one}
-use Prim.Native.Nat.{_≤_, _-_}
 use mathlib.Core.Path.{_≡_}
 use mathlib.Core.List.{_++_}
 use lib.ListN.{length, length-set, take, drop}
+use borrow.Author.Needs.{needs}
 use Rattle.sheet.proofs.ListLaws.{copy-more, copy-all}
 use Rattle.sheet.proofs.put_table.Statement.{statement}
 use Rattle.sheet.proofs.put_table.Tie as tie

@@ -1,7 +1,7 @@
 -- `put_trailer` meets its contract: four stores. Assumes nothing.
+use Prim.Native.Nat.{suc, _+_}
 use native.Mathlib.Omega.{arith}
 use native.Mathlib.Numerals.{add-one}
-use Prim.Native.Nat.{suc, _+_}
 use mathlib.Core.Path.{_≡_}
 use lib.ListN.{length-set}
 use borrow.Author.Needs.{needs}

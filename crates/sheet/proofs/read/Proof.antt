@@ -26,7 +26,9 @@ same-length : tie.Need-same-length
 same-length c = search needs
 
 returns-3 : tie.Need-returns-3
-returns-3 c = rw (c .before .before .before .before .put-table .ensures) (read-done (c .before .before .before .before .before .before .before .before .before .parse .ensures) _ (c .before .before .before .before .before .before .before .before .if1 .left) (c .before .before .before .before .before .before .before .if2 .left))
+returns-3 c =
+    let d = c .before .before .before .before .before .before .before in
+    rw (c .before .before .before .before .put-table .ensures) (read-done (d .before .before .parse .ensures) _ (d .before .if1 .left) (d .if2 .left))
 
 pub read-spec : {M : Type 1} → statement M
 read-spec =

@@ -1,10 +1,10 @@
 -- `read_pairs` meets its contract. The loop's invariant: the answer for the whole part is the answer for what is left of it, from the pair (a, b)
 -- and the table so far. The measure is what is left. Assumes nothing.
-use borrow.Author.Needs.{needs}
-use native.Mathlib.Omega.{arith}
 use Prim.Native.Nat.{_-_, _/_, _≤_}
+use native.Mathlib.Omega.{arith}
 use mathlib.Core.Path.{_≡_, sym, _∙_}
 use lib.ListN.{length, drop, replicate}
+use borrow.Author.Needs.{needs}
 use Rattle.rules.specs.Sheet.{pairs}
 use Rattle.sheet.specs.Answers.{pairsAnswer}
 use Rattle.sheet.proofs.PairLaws.{in-range, goes-on, stops, ends}
@@ -38,8 +38,10 @@ pair-number-requires c κs = search needs
 returns : tie.Need-returns Inv-loop μ-loop
 unfolding pairsAnswer
 returns c =
-    let a = c .before .before .before .before .before .loop in
-    rw (a .inv .1, stops _ _ _ _ (a .t) (a .i) _ _ _ (c .before .before .before .before .loop-test .taken) (c .before .before .before .byte-at .ensures .0) (c .before .before .byte-at2 .ensures .0) (c .before .pair-number .ensures) (c .if1 .taken))
+    let d = c .before in
+    let a = d .before .before .before .before .loop in
+    let t = d .before .before .before .loop-test .taken in
+    rw (a .inv .1, stops _ _ _ _ (a .t) (a .i) _ _ _ t (d .before .before .byte-at .ensures .0) (d .before .byte-at2 .ensures .0) (d .pair-number .ensures) (c .if1 .taken))
 
 add-link-requires : tie.Need-add-link-requires Inv-loop μ-loop
 add-link-requires c κs =
@@ -54,8 +56,14 @@ loop-less c = search needs
 
 loop-again : tie.Need-loop-again Inv-loop μ-loop
 loop-again c =
-    let a = c .before .before .before .before .before .before .loop in
-    (omega arith, rw (c .add-link .ensures) (a .inv .1 ∙ goes-on _ _ _ _ (a .t) (a .i) _ _ _ (c .before .before .before .before .before .loop-test .taken) (c .before .before .before .before .byte-at .ensures .0) (c .before .before .before .byte-at2 .ensures .0) (c .before .before .pair-number .ensures) (c .before .if1 .left)))
+    let d = c .before .before in
+    let a = d .before .before .before .before .loop in
+    let t = d .before .before .before .loop-test .taken in (
+      omega arith,
+      rw (c .add-link .ensures)
+          (a .inv .1
+          ∙ goes-on _ _ _ _ (a .t) (a .i) _ _ _ t (d .before .before .byte-at .ensures .0) (d .before .byte-at2 .ensures .0) (d .pair-number .ensures) (c .before .if1 .left)),
+    )
 
 returns-2 : tie.Need-returns-2 Inv-loop μ-loop
 unfolding pairsAnswer

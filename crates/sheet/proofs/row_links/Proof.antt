@@ -1,10 +1,10 @@
 -- `row_links` meets its contract. The loop's invariant: k counts the pairs passed. Assumes nothing.
-use borrow.Author.Needs.{needs}
+use Prim.Native.Nat.{_≤_, _-_}
 use native.Mathlib.Omega.{arith}
 use native.Mathlib.Numerals.{add-one}
-use Prim.Native.Nat.{_≤_, _-_}
 use mathlib.Core.Path.{_≡_, refl}
 use mathlib.Core.Logic.{⊎-elim}
+use borrow.Author.Needs.{needs}
 use Rattle.rules.specs.Sets.{count}
 use Rattle.sheet.specs.Writing.{isLink}
 use Rattle.sheet.proofs.LoopLaws.{count-next}

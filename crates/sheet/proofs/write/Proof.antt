@@ -1,13 +1,29 @@
 -- `write` meets its contract: at each `return` the tests on the way decide those of `writeSheet`; the bytes are what `put_links` and `put_trailer`
 -- ensure. Assumes nothing.
+use Prim.Native.Nat.{ℕ}
 use native.Mathlib.Omega.{arith}
 use mathlib.Core.Path.{sym, _∙_}
+use mathlib.Core.List.{List}
+use denote.Ref.{now}
 use borrow.Author.Tests.{not-true, not-false}
-use Rattle.sheet.proofs.WriteLaws.{bytes-length}
-use Rattle.sheet.proofs.WriteCallLaws.{write-none, write-many, write-size, write-improper, write-no-room, write-done}
 use borrow.Author.Needs.{needs}
+use Rattle.sheet.proofs.WriteLaws.{bytes-length}
+use Rattle.sheet.proofs.WriteCallLaws.{Writable, write-none, write-many, write-size, write-improper, write-no-room, write-done}
 use Rattle.sheet.proofs.write.Statement.{statement}
 use Rattle.sheet.proofs.write.Tie as tie
+
+-- where the table is proper: its words, and what the tests before showed
+module _ (c : tie.Else4) where
+  abbrev table-at : List ℕ
+  table-at = now (c .before .before .before .before .before .before .before .args .table)
+
+  writable : Writable (c .before .before .before .before .before .before .before .args .boxes) table-at
+  writable = record {
+    boxes-some = c .before .before .before .before .if1 .left;
+    boxes-most = c .before .before .before .if2 .left;
+    words = c .before .before .if3 .left;
+    links-proper = sym (c .before .table-proper .ensures) ∙ not-false _ (c .if4 .left);
+  }
 
 returns : tie.Need-returns
 returns c = write-none _ _ _ (c .if1 .taken)
@@ -34,16 +50,20 @@ add-size : tie.Need-add-size
 add-size c = search needs
 
 returns-5 : tie.Need-returns-5
-returns-5 c = write-no-room _ _ _ (c .before .before .before .before .before .before .if1 .left) (c .before .before .before .before .before .if2 .left) (c .before .before .before .before .if3 .left) (sym (c .before .before .before .table-proper .ensures) ∙ not-false _ (c .before .before .if4 .left)) _ (c .before .links-of .ensures .0) (c .if5 .taken)
+returns-5 c = write-no-room _ (writable (c .before .before)) _ (c .before .links-of .ensures .0) (c .if5 .taken)
 
 put-links-requires : tie.Need-put-links-requires
-put-links-requires c κs = (c .before .before .before .before .before .if3 .left, omega (arith, bytes-length (c .before .before .before .before .before .before .before .before .before .before .args .table .now), c .before .before .links-of .ensures .0, c .before .if5 .left))
+put-links-requires c κs =
+    let h = writable (c .before .before .before) in
+    let l = c .before .before .links-of .ensures .0 in
+    (h .words, omega (arith, bytes-length (table-at (c .before .before .before)), l, c .before .if5 .left))
 
 put-trailer-requires : tie.Need-put-trailer-requires
 put-trailer-requires c κs =
-    let n = bytes-length (c .before .before .before .before .before .before .before .before .before .before .before .before .before .before .args .table .now) in
-    let l = c .before .before .before .before .before .before .links-of .ensures in
-    (omega (arith, c .before .before .before .put-links .ensures .0, c .before .before .before .put-links .kept .1 .0, c .before .before .before .before .before .if5 .left), l .1, c .before .before .before .before .before .before .before .before .before .before .if2 .left)
+    let d = c .before .before .before .before .before in
+    let l = d .before .links-of .ensures in
+    let s = c .before .before .before .put-links in
+    (omega (arith, bytes-length (table-at (d .before .before)), l .0, s .ensures .0, s .kept .1 .0, d .if5 .left), l .1, writable (d .before .before) .boxes-most)
 
 cast-t16 : tie.Need-cast-t16
 cast-t16 c = search needs
@@ -53,8 +73,9 @@ same-length c = search needs
 
 returns-6 : tie.Need-returns-6
 returns-6 c =
+    let d = c .before .before .before .before .before .before .before .before in
     let s = c .before .before .before .before .before .before .put-links .ensures in
-    write-done _ _ _ (c .before .before .before .before .before .before .before .before .before .before .before .before .before .before .if1 .left) (c .before .before .before .before .before .before .before .before .before .before .before .before .before .if2 .left) (c .before .before .before .before .before .before .before .before .before .before .before .before .if3 .left) (sym (c .before .before .before .before .before .before .before .before .before .before .before .table-proper .ensures) ∙ not-false _ (c .before .before .before .before .before .before .before .before .before .before .if4 .left)) _ (c .before .before .before .before .before .before .before .before .before .links-of .ensures .0) (c .before .before .before .before .before .before .before .before .if5 .left) _ _ _ (s .0) (s .1) (c .before .before .put-trailer .ensures)
+    write-done _ (writable (d .before .before)) _ (d .before .links-of .ensures .0) (d .if5 .left) _ _ _ (s .0) (s .1) (c .before .before .put-trailer .ensures)
 
 pub write-spec : {M : Type 1} → statement M
 write-spec =
