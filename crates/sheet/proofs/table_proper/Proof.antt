@@ -1,0 +1,55 @@
+-- `table_proper` meets its contract. The loop's invariant: the rows passed are proper. Assumes nothing.
+use Prim.Native.Nat.{_≤_, _-_}
+use native.Mathlib.Omega.{arith}
+use native.Mathlib.Numerals.{add-one}
+use mathlib.Core.Path.{_≡_, refl, sym, _∙_}
+use mathlib.Core.Bool.{true}
+use borrow.Author.Needs.{needs}
+use borrow.Author.Tests.{not-true, not-false}
+use Rattle.rules.specs.Sets.{all}
+use Rattle.sheet.specs.Writing.{linkProper}
+use Rattle.sheet.proofs.LoopLaws.{all-next, all-stop}
+use Rattle.sheet.proofs.table_proper.Statement.{statement}
+use Rattle.sheet.proofs.table_proper.Tie as tie
+
+abbrev Inv-loop : tie.InvT-loop
+Inv-loop n t i₀ i = (i ≤ 16) × (all i (λ r. all 16 (linkProper n t r)) ≡ true)
+
+abbrev μ-loop : tie.MeasureT-loop
+μ-loop n t i₀ i = 16 - i
+
+loop-holds : tie.Need-loop-holds Inv-loop μ-loop
+unfolding all
+loop-holds c = (search needs, refl)
+
+row-proper-requires : tie.Need-row-proper-requires Inv-loop μ-loop
+row-proper-requires c κs = search needs
+
+returns : tie.Need-returns Inv-loop μ-loop
+returns c = sym (all-stop 16 _ (c .before .before .before .loop .i) (c .before .before .loop-test .taken) (sym (c .before .row-proper .ensures) ∙ not-true _ (c .if1 .taken)))
+
+add-i : tie.Need-add-i Inv-loop μ-loop
+add-i c = search needs
+
+loop-less : tie.Need-loop-less Inv-loop μ-loop
+loop-less c = search needs
+
+loop-again : tie.Need-loop-again Inv-loop μ-loop
+loop-again c = (search needs, rw (add-one, all-next, c .before .before .before .loop .inv .1) (sym (c .before .row-proper .ensures) ∙ not-false _ (c .if1 .left)))
+
+returns-2 : tie.Need-returns-2 Inv-loop μ-loop
+returns-2 c = let e : c .before .loop .i ≡ 16 = omega arith in sym (rw e at (c .before .loop .inv .1))
+
+pub table-proper-spec : {M : Type 1} → statement M
+table-proper-spec =
+    tie.close
+    (tie.spec
+    Inv-loop
+    μ-loop
+    loop-holds
+    row-proper-requires
+    returns
+    add-i
+    loop-less
+    loop-again
+    returns-2)

@@ -1,0 +1,453 @@
+// The link sheet: reading it, writing it, and the allowance. Document 01, "The link sheet" and "Numbers given when the hub refuses".
+ghost use mathlib.Core.Path.{_≡_};
+ghost use Prim.Native.Nat.{_+_, _*_, _^_, _<_, _≤_};
+ghost use mathlib.Core.List.{[], _∷_};
+ghost use lib.ListN.{length, getD, replicate};
+ghost use lib.Seq.{sets};
+ghost use Rattle.rules.specs.Sets.{mem, word, joinAt, all, count};
+ghost use Rattle.rules.specs.Sheet.{link, pairs, linkBytes, linkCount};
+ghost use Rattle.rules.specs.Calls.{readCall, writeCall, allowanceCall};
+ghost use Rattle.sheet.specs.Answers.{pairNumber, pairsAnswer, trailerNumber, Trailed, noSheet, ParsedFrom, readOf, writtenOf, allowedOf};
+ghost use Rattle.sheet.specs.Writing.{linkProper, isLink, pairOf, rowBytes};
+
+// ---- sets and tables
+
+// The set s joins entry k of the table.
+fn join_at(t: [u16; 16], k: usize, s: u16) -> [u16; 16]
+    requires { ⌜ k < 16 ⌝ }
+    ensures { λ r. ⌜ r ≡ joinAt t k s ⌝ }
+{
+    let mut out = t;
+    out[k] = out[k] | s;
+    out
+}
+
+// A link joins the table, both ways.
+fn add_link(t: [u16; 16], a: usize, b: usize) -> [u16; 16]
+    requires { ⌜ (a < 16) × (b < 16) ⌝ }
+    ensures { λ r. ⌜ r ≡ link a b t ⌝ }
+{
+    let one_way = join_at(t, a, sets::only(b));
+    join_at(one_way, b, sets::only(a))
+}
+
+// ---- reading
+
+// A byte of the sheet, as a number.
+fn byte_at(s: &[u8], i: usize) -> usize
+    requires { ⌜ i < length (now s) ⌝ }
+    ensures { λ r. ⌜ (r ≡ getD (now (s .entry)) i 0) × (r < 256) ⌝ }
+{
+    s[i] as usize
+}
+
+// The number that the pair (c, d) is refused with, 0 for none; (a, b) is the pair before. "Pair by pair 6 to 8."
+fn pair_number(n: usize, a: usize, b: usize, c: usize, d: usize) -> u32
+    ensures { λ r. ⌜ r ≡ pairNumber n a b c d ⌝ }
+{
+    if n <= c {
+        return 6;
+    }
+    if n <= d {
+        return 6;
+    }
+    if d <= c {
+        return 7;
+    }
+    if a < c {
+        return 0;
+    }
+    if a != c {
+        return 8;
+    }
+    if d <= b {
+        return 8;
+    }
+    0
+}
+
+// What the pairs give: a refusal's number with an empty table, or 0 and the table.
+struct Pairs {
+    number: u32,
+    table: [u16; 16],
+}
+
+// The pair reader: `part` is the part of the sheet that holds the pairs.
+fn read_pairs(n: usize, part: &[u8]) -> Pairs
+    requires { ⌜ n ≤ 16 ⌝ }
+    ensures { λ r. ⌜ r ≡ pairsAnswer (pairs n 0 0 0 (now (part .entry)) (replicate 16 0)) ⌝ }
+{
+    let mut t = [0u16; 16];
+    let mut a: usize = 0;
+    let mut b: usize = 0;
+    let mut i: usize = 0;
+    while i + 1 < part.len() {
+        let c = byte_at(part, i);
+        let d = byte_at(part, i + 1);
+        let number = pair_number(n, a, b, c, d);
+        if number != 0 {
+            return Pairs {
+                number: number,
+                table: [0u16; 16],
+            };
+        }
+        let next = add_link(t, c, d);
+        t = next;
+        a = c;
+        b = d;
+        i = i + 2;
+    }
+    Pairs {
+        number: 0,
+        table: t,
+    }
+}
+
+// A sheet: 0, N, P and the link set of each box; or the number that it is refused with, and zeros.
+pub struct Parsed {
+    pub number: u32,
+    pub boxes: usize,
+    pub links: usize,
+    pub table: [u16; 16],
+}
+
+// A refusal's number, and zeros.
+fn no_sheet(number: u32) -> Parsed
+    ensures { λ r. ⌜ r ≡ noSheet number ⌝ }
+{
+    Parsed {
+        number: number,
+        boxes: 0,
+        links: 0,
+        table: [0u16; 16],
+    }
+}
+
+// The number that the trailer of a sheet of `end` bytes is refused with, 0 for none: "The order is the table's", here 2 to 5.
+fn trailer_number(end: usize, b: usize, p: usize, n: usize, version: usize) -> u32
+    ensures { λ r. ⌜ (r ≡ trailerNumber end b p n version) × (r ≡ 0 → Trailed end b p n) ⌝ }
+{
+    if version != 1 {
+        return 2;
+    }
+    if n == 0 {
+        return 3;
+    }
+    if 16 < n {
+        return 3;
+    }
+    if 120 < p {
+        return 4;
+    }
+    if b != 4 + 2 * p {
+        return 5;
+    }
+    if end < b {
+        return 5;
+    }
+    0
+}
+
+// The sheet is read from its end: the trailer is B, P, N, version. B cuts the part with the pairs from the sheet's middle.
+pub fn parse(sheet: &[u8]) -> Parsed
+    ensures { λ r. ⌜ ParsedFrom (now (sheet .entry)) r ⌝ }
+{
+    let end = sheet.len();
+    if end < 4 {
+        return no_sheet(1);
+    }
+    let to = end - 4;
+    let b = byte_at(sheet, to);
+    let p = byte_at(sheet, end - 3);
+    let n = byte_at(sheet, end - 2);
+    let version = byte_at(sheet, end - 1);
+    let number = trailer_number(end, b, p, n, version);
+    if number != 0 {
+        return no_sheet(number);
+    }
+    let from = end - b;
+    let read = read_pairs(n, &sheet[from..to]);
+    if read.number != 0 {
+        return no_sheet(read.number);
+    }
+    let t = read.table;
+    Parsed {
+        number: 0,
+        boxes: n,
+        links: p,
+        table: t,
+    }
+}
+
+// What reading answers: 0, N and P; or the number that it is refused with, and zeros.
+pub struct Reading {
+    pub number: u32,
+    pub boxes: u32,
+    pub links: u32,
+}
+
+// The 16 words of a table, to a lent one.
+fn put_table(t: [u16; 16], table: &mut [u16])
+    requires { ⌜ length (now table) ≡ 16 ⌝ }
+    ensures { λ _. ⌜ now (table .exit) ≡ t ⌝ }
+{
+    for k in 0..16 {
+        table[k] = t[k];
+    }
+}
+
+// Reads a sheet into a lent table of 16 words, the link set of each box. A refusal leaves the table as it was.
+pub fn read(sheet: &[u8], table: &mut [u16]) -> Reading
+    ensures { λ r. ⌜ readOf r (now (table .exit)) ≡ readCall (now (sheet .entry)) (now (table .entry)) ⌝ }
+{
+    let found = parse(sheet);
+    let number = found.number;
+    if number != 0 {
+        return Reading {
+            number: number,
+            boxes: 0,
+            links: 0,
+        };
+    }
+    if table.len() != 16 {
+        return Reading {
+            number: 12,
+            boxes: 0,
+            links: 0,
+        };
+    }
+    let t = found.table;
+    put_table(t, table);
+    Reading {
+        number: 0,
+        boxes: found.boxes as u32,
+        links: found.links as u32,
+    }
+}
+
+// ---- the allowance
+
+pub struct Allowed {
+    pub number: u32,
+    pub identities: u32,
+}
+
+// "The identities a full broadcast sends: E × (2N - 1), 0 for no links. At refusal it is 0." A link makes two wires.
+pub fn allowance(sheet: &[u8]) -> Allowed
+    ensures { λ r. ⌜ allowedOf r ≡ allowanceCall (now (sheet .entry)) ⌝ }
+{
+    let found = parse(sheet);
+    let number = found.number;
+    if number != 0 {
+        return Allowed {
+            number: number,
+            identities: 0,
+        };
+    }
+    let wires = 2 * (found.links as u32);
+    let boxes = found.boxes as u32;
+    Allowed {
+        number: 0,
+        identities: wires * (2 * boxes - 1),
+    }
+}
+
+// ---- writing
+
+// Whether box j is in the link set of box i.
+fn in_row(t: &[u16], i: usize, j: usize) -> bool
+    requires { ⌜ (length (now t) ≡ 16) × (i < 16) × (j < 16) ⌝ }
+    ensures { λ r. ⌜ r ≡ mem j (word (now (t .entry)) i) ⌝ }
+{
+    sets::is_in(t[i], j)
+}
+
+// Where j is in the link set of i: the same the other way, not the box itself, and both below n.
+fn link_proper(n: usize, t: &[u16], i: usize, j: usize) -> bool
+    requires { ⌜ (length (now t) ≡ 16) × (i < 16) × (j < 16) ⌝ }
+    ensures { λ r. ⌜ r ≡ linkProper n (now (t .entry)) i j ⌝ }
+{
+    if !in_row(t, i, j) {
+        return true;
+    }
+    if !in_row(t, j, i) {
+        return false;
+    }
+    if i == j {
+        return false;
+    }
+    if n <= i {
+        return false;
+    }
+    j < n
+}
+
+// All that stands in the link set of box i is proper.
+fn row_proper(n: usize, t: &[u16], i: usize) -> bool
+    requires { ⌜ (length (now t) ≡ 16) × (i < 16) ⌝ }
+    ensures { λ r. ⌜ r ≡ all 16 (linkProper n (now (t .entry)) i) ⌝ }
+{
+    for j in 0..16 {
+        if !link_proper(n, t, i, j) {
+            return false;
+        }
+    }
+    true
+}
+
+// "Not the same both ways, a box linked to itself, or a box of N or above": none of it is in the table.
+fn table_proper(n: usize, t: &[u16]) -> bool
+    requires { ⌜ length (now t) ≡ 16 ⌝ }
+    ensures { λ r. ⌜ r ≡ all 16 (λ i. all 16 (linkProper n (now (t .entry)) i)) ⌝ }
+{
+    for i in 0..16 {
+        if !row_proper(n, t, i) {
+            return false;
+        }
+    }
+    true
+}
+
+// Whether the pair (i, j) is written.
+fn is_link(t: &[u16], i: usize, j: usize) -> bool
+    requires { ⌜ (length (now t) ≡ 16) × (i < 16) × (j < 16) ⌝ }
+    ensures { λ r. ⌜ r ≡ isLink (now (t .entry)) i j ⌝ }
+{
+    if i < j {
+        return in_row(t, i, j);
+    }
+    false
+}
+
+// How many pairs have i as their first box.
+fn row_links(t: &[u16], i: usize) -> usize
+    requires { ⌜ (length (now t) ≡ 16) × (i < 16) ⌝ }
+    ensures { λ r. ⌜ r ≡ count 16 (isLink (now (t .entry)) i) ⌝ }
+{
+    let mut k: usize = 0;
+    for j in 0..16 {
+        if is_link(t, i, j) {
+            k = k + 1;
+        }
+    }
+    k
+}
+
+// P, the number of links.
+fn links_of(t: &[u16]) -> usize
+    requires { ⌜ length (now t) ≡ 16 ⌝ }
+    ensures { λ r. ⌜ (r ≡ linkCount 16 (now (t .entry))) × (r ≤ 120) ⌝ }
+{
+    let mut k: usize = 0;
+    for i in 0..16 {
+        k = k + row_links(t, i);
+    }
+    k
+}
+
+// A pair's two bytes.
+fn put_pair(buffer: &mut [u8], at: usize, i: usize, j: usize)
+    requires { ⌜ (at + 2 ≤ length (now buffer)) × (i < 16) × (j < 16) ⌝ }
+    ensures { λ _. ⌜ now (buffer .exit) ≡ sets (now (buffer .entry)) at (i ∷ (j ∷ [])) ⌝ }
+{
+    buffer[at] = i as u8;
+    buffer[at + 1] = j as u8;
+}
+
+// The pair (i, j) where it is a link; the answer is the place after it.
+fn put_link(t: &[u16], buffer: &mut [u8], at: usize, i: usize, j: usize) -> usize
+    requires { ⌜ (length (now t) ≡ 16) × (at + length (pairOf (now t) i j) ≤ length (now buffer)) × (i < 16) × (j < 16) ⌝ }
+    ensures { λ r. ⌜ (r ≡ at + length (pairOf (now (t .entry)) i j)) × (now (buffer .exit) ≡ sets (now (buffer .entry)) at (pairOf (now (t .entry)) i j)) ⌝ }
+{
+    if is_link(t, i, j) {
+        put_pair(buffer, at, i, j);
+        return at + 2;
+    }
+    at
+}
+
+// The pairs whose first box is i.
+fn put_row(t: &[u16], buffer: &mut [u8], at: usize, i: usize) -> usize
+    requires { ⌜ (length (now t) ≡ 16) × (at + length (rowBytes 16 (now t) i) ≤ length (now buffer)) × (i < 16) ⌝ }
+    ensures { λ r. ⌜ (r ≡ at + length (rowBytes 16 (now (t .entry)) i)) × (now (buffer .exit) ≡ sets (now (buffer .entry)) at (rowBytes 16 (now (t .entry)) i)) ⌝ }
+{
+    let mut k = at;
+    for j in 0..16 {
+        k = put_link(t, buffer, k, i, j);
+    }
+    k
+}
+
+// All pairs, "by first box and then by second", from the buffer's start.
+fn put_links(t: &[u16], buffer: &mut [u8]) -> usize
+    requires { ⌜ (length (now t) ≡ 16) × (length (linkBytes 16 (now t)) ≤ length (now buffer)) ⌝ }
+    ensures { λ r. ⌜ (r ≡ length (linkBytes 16 (now (t .entry)))) × (now (buffer .exit) ≡ sets (now (buffer .entry)) 0 (linkBytes 16 (now (t .entry)))) ⌝ }
+{
+    let mut k: usize = 0;
+    for i in 0..16 {
+        k = put_row(t, buffer, k, i);
+    }
+    k
+}
+
+// The trailer: B, P, N, version.
+fn put_trailer(buffer: &mut [u8], at: usize, p: usize, n: usize)
+    requires { ⌜ (at + 4 ≤ length (now buffer)) × (p ≤ 120) × (n ≤ 16) ⌝ }
+    ensures { λ _. ⌜ now (buffer .exit) ≡ sets (now (buffer .entry)) at ((4 + 2 * p) ∷ (p ∷ (n ∷ (1 ∷ [])))) ⌝ }
+{
+    buffer[at] = (4 + 2 * p) as u8;
+    buffer[at + 1] = p as u8;
+    buffer[at + 2] = n as u8;
+    buffer[at + 3] = 1;
+}
+
+// What writing answers: 0 and the bytes written; or the number that it is refused with, and 0.
+pub struct Written {
+    pub number: u32,
+    pub length: u32,
+}
+
+// Writes the sheet of N boxes and a link table to the start of a lent buffer; the rest stays. "Writing tests 3, 14, 15."
+pub fn write(boxes: u32, table: &[u16], buffer: &mut [u8]) -> Written
+    ensures { λ r. ⌜ writtenOf r (now (buffer .exit)) ≡ writeCall boxes (now (table .entry)) (now (buffer .entry)) ⌝ }
+{
+    if boxes == 0 {
+        return Written {
+            number: 3,
+            length: 0,
+        };
+    }
+    if 16 < boxes {
+        return Written {
+            number: 3,
+            length: 0,
+        };
+    }
+    if table.len() != 16 {
+        return Written {
+            number: 14,
+            length: 0,
+        };
+    }
+    let n = boxes as usize;
+    if !table_proper(n, table) {
+        return Written {
+            number: 14,
+            length: 0,
+        };
+    }
+    let p = links_of(table);
+    let size = 4 + 2 * p;
+    if buffer.len() < size {
+        return Written {
+            number: 15,
+            length: 0,
+        };
+    }
+    let at = put_links(table, buffer);
+    put_trailer(buffer, at, p, n);
+    Written {
+        number: 0,
+        length: size as u32,
+    }
+}
