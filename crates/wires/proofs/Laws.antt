@@ -14,7 +14,7 @@ use lib.ListN.{length, getD, set, replicate, length-set, length-append, length-r
 use borrow.Author.Tests.{ltb-true, ltb-false, eqb-true, eqb-false, lt-ltb, le-ltb, eq-eqb, ne-eqb}
 use Rattle.rules.specs.Sets.{word}
 use Rattle.wires.specs.Wires.{Sizes, Proper, Waiting, Formed, stride, place, slot, headAt, queuedAt, wayAt, head, queued, underWay, ringAt, waiting, none, hasRoom, pushed, arrived, oldest, skipped, front, taken, takenWord, cleared, Others, joinWay, Pushed, Arrived, Skipped, First, Taken, Cleared}
-use Rattle.wires.proofs.Ring.{turn-apart, read-same, read-beside, read-elsewhere, ring-agree, ring-turn, ring-more, ring-first, ring-length, ring-none, none-ring}
+use Rattle.wires.proofs.Ring.{turn-apart, read-same, read-beside, read-elsewhere, ring-agree, ring-turn, ring-more, ring-first, ring-some, ring-length, ring-none, none-ring}
 
 -- a wire that holds these two lists
 abbrev holds : List ℕ → List ℕ → Waiting
@@ -61,16 +61,25 @@ module _ (z : Sizes) (ok : Proper z) where
   ring-kept : (s : List ℕ) (i p v h n : ℕ) → z .ring ≤ p → ringAt z (set s (place z i p) v) i h n ≡ ringAt z s i h n
   ring-kept s i p v h n l = ring-agree z s (set s (place z i p) v) i h h n (λ j _. read-beside z s i p ((h + j) % z .ring) v (omega (arith, mod-lt (h + j) (ok .some))))
 
+  -- two words stored behind the ring
+  both-kept : (s : List ℕ) (i p v q u h n : ℕ) → z .ring ≤ p → z .ring ≤ q → ringAt z (set (set s (place z i p) v) (place z i q) u) i h n ≡ ringAt z s i h n
+  both-kept s i p v q u h n lp lq = ring-kept (set s (place z i p) v) i q u h n lq ∙ ring-kept s i p v h n lp
+
+  -- a number read back, that is a place of the ring
+  mod-of : {a b : ℕ} → a ≡ b → b < z .ring → a % z .ring ≡ b
+  mod-of e l = ap (λ (y : ℕ). y % z .ring) e ∙ mod-eq-of-lt l
+
   -- the counts of a wire, and its ring, give what it holds
   waiting-is : (s : List ℕ) (i h q w : ℕ) → head z s i ≡ h → queued z s i ≡ q → underWay z s i ≡ w → waiting z s i ≡ holds (ringAt z s i h q) (ringAt z s i (h + q) w)
   unfolding waiting
   waiting-is s i h q w eh eq ew = rw (eh, eq, ew)
 
-  -- a store stays formed where one wire keeps to the room and every other is as it was
-  kept-formed : (s s′ : List ℕ) (i : ℕ) → length s′ ≡ length s → Others z s i s′ → queued z s′ i + underWay z s′ i ≤ z .room → Formed z s → Formed z s′
-  kept-formed s s′ i e o l f = record {
+  -- a store stays formed where wire i keeps to the room with what it holds now, and every other wire is as it was
+  kept-formed : (s s′ : List ℕ) (i : ℕ) (w : Waiting) → length s′ ≡ length s → Others z s i s′ → waiting z s′ i ≡ w → length (w .queue) + length (w .way) ≤ z .room
+      → Formed z s → Formed z s′
+  kept-formed s s′ i w e o h l f = record {
     size = e ∙ f .size;
-    room = λ k. elim (ℕ-discrete k i) [ yes p ↦ rw (p, queue-length, way-length) l | no n ↦ rw (o k n) (f .room k) ];
+    room = λ k. elim (ℕ-discrete k i) [ yes p ↦ rw (p, h) l | no n ↦ rw (o k n) (f .room k) ];
   }
 
   -- the room, in the store's own counts
@@ -108,3 +117,197 @@ module _ (z : Sizes) (ok : Proper z) where
         let way : ringAt z s₂ i (h + q) (w + 1) ≡ ringAt z s i (h + q) w ++ (x ∷ []) =
         rw (ring-more, old (h + q) w (omega arith) (omega arith), new) in
         waiting-is s₂ i h q (w + 1) eh eq ew ∙ ap₂ holds (old h q (omega arith) (omega arith)) way
+
+    pub push-yes : (x : ℕ) → queued z s i + underWay z s i < z .room
+        → Pushed z s i x (set (set s (slot z i (head z s i + queued z s i + underWay z s i)) x) (wayAt z i) (underWay z s i + 1)) true
+    unfolding pushed hasRoom
+    push-yes x l =
+        let e : ltb (queued z s i + underWay z s i) (z .room) ≡ true = lt-ltb _ _ l in
+        let o = stored-twice s i ((head z s i + queued z s i + underWay z s i) % z .ring) x (z .ring + 2) (underWay z s i + 1) (slot-in _) (omega arith) in
+        record {
+          words = rw e;
+          answer = sym e;
+          room = rw (queue-length, way-length) (sym e);
+          joined = λ _. push-joins x l;
+          refused = λ n. cc;
+          others = o;
+          formed = kept-formed s _ i _ (simp length-set) o (push-joins x l) (simp (length-append, queue-length, way-length) (omega arith));
+        }
+
+    pub push-no : (x : ℕ) → z .room ≤ queued z s i + underWay z s i → Pushed z s i x s false
+    unfolding pushed hasRoom
+    push-no x l =
+        let e : ltb (queued z s i + underWay z s i) (z .room) ≡ false = le-ltb _ _ l in
+        record {
+          words = rw e;
+          answer = sym e;
+          room = rw (queue-length, way-length) (sym e);
+          joined = λ n. cc;
+          refused = λ _. refl;
+          others = λ k _. refl;
+          formed = λ f. f;
+        }
+
+    pub push-law : (x : ℕ) → Pushed z s i x (pushed z s i x) (hasRoom z s i)
+    unfolding pushed hasRoom
+    push-law x = go (hasRoom z s i) refl
+      where
+        go : (b : Bool) → hasRoom z s i ≡ b → Pushed z s i x (pushed z s i x) (hasRoom z s i)
+        go true e = rw e (push-yes x (ltb-true _ _ e))
+        go false e = rw e (push-no x (ltb-false _ _ e))
+
+    -- a word stored at a place behind the ring, and another at a later one
+    set₂ : ℕ → ℕ → ℕ → ℕ → List ℕ
+    set₂ p v q u = set (set s (place z i p) v) (place z i q) u
+
+    read₁ : (p v q u : ℕ) → p < stride z → p ≢ q → word (set₂ p v q u) (place z i p) ≡ v
+    unfolding set₂
+    read₁ p v q u hp ne = read-beside z (set s (place z i p) v) i q p u ne ∙ read-same z s i p v size here hp
+
+    read₂ : (p v q u : ℕ) → q < stride z → word (set₂ p v q u) (place z i q) ≡ u
+    unfolding set₂
+    read₂ p v q u hq = read-same z (set s (place z i p) v) i q u (length-set s (place z i p) v ∙ size) here hq
+
+    read₀ : (p v q u r : ℕ) → r ≢ p → r ≢ q → word (set₂ p v q u) (place z i r) ≡ word s (place z i r)
+    unfolding set₂
+    read₀ p v q u r np nq = read-beside z (set s (place z i p) v) i q r u nq ∙ read-beside z s i p r v np
+
+    -- ---- arrive
+
+    pub arrive-delivers : queued z s i + underWay z s i ≤ z .room → (x : ℕ) (l : List ℕ) → waiting z s i .way ≡ x ∷ l
+        → waiting z (set (set s (queuedAt z i) (queued z s i + 1)) (wayAt z i) (underWay z s i - 1)) i ≡ holds (waiting z s i .queue ++ (x ∷ [])) l
+    unfolding waiting set₂
+    arrive-delivers room x l e =
+        let h : ℕ = head z s i in
+        let q : ℕ = queued z s i in
+        let w : ℕ = underWay z s i in
+        let p₁ : ℕ = z .ring + 1 in
+        let p₂ : ℕ = z .ring + 2 in
+        let s′ : List ℕ = set₂ p₁ (q + 1) p₂ (w - 1) in
+        let less : z .room < z .ring = ok .less in
+        let first = ring-first z s i (h + q) w x l e in
+        let some : 0 < w = first .1 in
+        let eh : head z s′ i ≡ h = ap (λ (y : ℕ). y % z .ring) (read₀ p₁ (q + 1) p₂ (w - 1) (z .ring) (omega arith) (omega arith)) in
+        let eq : queued z s′ i ≡ q + 1 = mod-of (read₁ p₁ (q + 1) p₂ (w - 1) (omega arith) (omega arith)) (omega arith) in
+        let ew : underWay z s′ i ≡ w - 1 = mod-of (read₂ p₁ (q + 1) p₂ (w - 1) (omega arith)) (omega arith) in
+        let kept : (a n : ℕ) → ringAt z s′ i a n ≡ ringAt z s i a n = λ a n. both-kept s i p₁ (q + 1) p₂ (w - 1) a n (omega arith) (omega arith) in
+        let next : h + (q + 1) ≡ h + q + 1 = omega arith in
+        waiting-is s′ i h (q + 1) (w - 1) eh eq ew
+        ∙ ap₂ holds (kept h (q + 1) ∙ rw (ring-more, first .0)) (kept (h + (q + 1)) (w - 1) ∙ rw next (first .2))
+
+    pub arrive-yes : underWay z s i ≢ 0
+        → Arrived z s i (set (set s (queuedAt z i) (queued z s i + 1)) (wayAt z i) (underWay z s i - 1)) (word s (slot z i (head z s i + queued z s i)))
+    unfolding waiting arrived oldest
+    arrive-yes ne =
+        let e : eqb (underWay z s i) 0 ≡ false = ne-eqb _ _ ne in
+        let o = stored-twice s i (z .ring + 1) (queued z s i + 1) (z .ring + 2) (underWay z s i - 1) (omega arith) (omega arith) in
+        let some = ring-some z s i (head z s i + queued z s i) (underWay z s i) ne in
+        record {
+          words = rw e;
+          answer = rw e;
+          oldestOf = λ x l p. ring-first z s i _ _ x l p .0;
+          delivered = λ f x l p. arrive-delivers (within s i f) x l p;
+          noneUnderWay = λ p. absurd (ne (none-ring z s i _ _ p));
+          others = o;
+          formed = λ f. let r = within s i f in
+              kept-formed s _ i _ (simp length-set) o (arrive-delivers r _ _ some) (simp (length-append, ring-length) (omega arith)) f;
+        }
+
+    pub arrive-no : underWay z s i ≡ 0 → Arrived z s i s 0
+    unfolding waiting arrived oldest
+    arrive-no e =
+        let t : eqb (underWay z s i) 0 ≡ true = eq-eqb _ _ e in
+        let never : (x : ℕ) (l : List ℕ) → waiting z s i .way ≡ x ∷ l → ⊥ =
+        λ x l p. let r : 0 < underWay z s i = ring-first z s i _ _ x l p .1 in omega arith in
+        record {
+          words = rw t;
+          answer = rw t;
+          oldestOf = λ x l p. absurd (never x l p);
+          delivered = λ f x l p. absurd (never x l p);
+          noneUnderWay = λ p. refl;
+          others = λ k _. refl;
+          formed = λ f. f;
+        }
+
+    pub arrive-law : Arrived z s i (arrived z s i) (oldest z s i)
+    unfolding arrived oldest
+    arrive-law = go (eqb (underWay z s i) 0) refl
+      where
+        go : (b : Bool) → eqb (underWay z s i) 0 ≡ b → Arrived z s i (arrived z s i) (oldest z s i)
+        go true e = rw e (arrive-no (eqb-true _ _ e))
+        go false e = rw e (arrive-yes (eqb-false _ _ e))
+
+    -- ---- the head moves on
+
+    next-place : (a n : ℕ) → ((head z s i + a) % z .ring + n) % z .ring ≡ (head z s i + a + n) % z .ring
+    next-place a n = mod-add-mod (head z s i + a) (z .ring) n
+
+    -- ---- skip
+
+    pub skip-drops : queued z s i ≡ 0 → (x : ℕ) (l : List ℕ) → waiting z s i .way ≡ x ∷ l
+        → waiting z (set (set s (headAt z i) ((head z s i + 1) % z .ring)) (wayAt z i) (underWay z s i - 1)) i ≡ holds [] l
+    unfolding waiting set₂
+    skip-drops none x l e =
+        let h : ℕ = head z s i in
+        let q : ℕ = queued z s i in
+        let w : ℕ = underWay z s i in
+        let h′ : ℕ = (h + 1) % z .ring in
+        let p₁ : ℕ = z .ring in
+        let p₂ : ℕ = z .ring + 2 in
+        let s′ : List ℕ = set₂ p₁ h′ p₂ (w - 1) in
+        let low : w < z .ring = mod-lt _ (ok .some) in
+        let first = ring-first z s i (h + q) w x l e in
+        let eh : head z s′ i ≡ h′ = mod-of (read₁ p₁ h′ p₂ (w - 1) (omega arith) (omega arith)) (mod-lt _ (ok .some)) in
+        let eq : queued z s′ i ≡ q = ap (λ (y : ℕ). y % z .ring) (read₀ p₁ h′ p₂ (w - 1) (z .ring + 1) (omega arith) (omega arith)) in
+        let ew : underWay z s′ i ≡ w - 1 = mod-of (read₂ p₁ h′ p₂ (w - 1) (omega arith)) (omega arith) in
+        let kept : (a n : ℕ) → ringAt z s′ i a n ≡ ringAt z s i a n = λ a n. both-kept s i p₁ h′ p₂ (w - 1) a n (omega arith) (omega arith) in
+        let turn : (h′ + q) % z .ring ≡ (h + q + 1) % z .ring =
+        next-place 1 q ∙ (let a : h + 1 + q ≡ h + q + 1 = omega arith in ap (λ (y : ℕ). y % z .ring) a) in
+        waiting-is s′ i h′ q (w - 1) eh eq ew
+        ∙ ap₂ holds (ring-none z s′ i h′ q none) (kept (h′ + q) (w - 1) ∙ ring-turn z s i (h′ + q) (h + q + 1) (w - 1) turn ∙ first .2)
+
+    -- ---- take
+
+    pub take-off : (x : ℕ) (l : List ℕ) → waiting z s i .queue ≡ x ∷ l
+        → waiting z (set (set s (headAt z i) ((head z s i + 1) % z .ring)) (queuedAt z i) (queued z s i - 1)) i ≡ holds l (waiting z s i .way)
+    unfolding waiting set₂
+    take-off x l e =
+        let h : ℕ = head z s i in
+        let q : ℕ = queued z s i in
+        let w : ℕ = underWay z s i in
+        let h′ : ℕ = (h + 1) % z .ring in
+        let p₁ : ℕ = z .ring in
+        let p₂ : ℕ = z .ring + 1 in
+        let s′ : List ℕ = set₂ p₁ h′ p₂ (q - 1) in
+        let low : q < z .ring = mod-lt _ (ok .some) in
+        let first = ring-first z s i h q x l e in
+        let some : 0 < q = first .1 in
+        let eh : head z s′ i ≡ h′ = mod-of (read₁ p₁ h′ p₂ (q - 1) (omega arith) (omega arith)) (mod-lt _ (ok .some)) in
+        let eq : queued z s′ i ≡ q - 1 = mod-of (read₂ p₁ h′ p₂ (q - 1) (omega arith)) (omega arith) in
+        let ew : underWay z s′ i ≡ w = ap (λ (y : ℕ). y % z .ring) (read₀ p₁ h′ p₂ (q - 1) (z .ring + 2) (omega arith) (omega arith)) in
+        let kept : (a n : ℕ) → ringAt z s′ i a n ≡ ringAt z s i a n = λ a n. both-kept s i p₁ h′ p₂ (q - 1) a n (omega arith) (omega arith) in
+        let turn : (h′ + (q - 1)) % z .ring ≡ (h + q) % z .ring =
+        next-place 1 (q - 1) ∙ (let a : h + 1 + (q - 1) ≡ h + q = omega arith in ap (λ (y : ℕ). y % z .ring) a) in
+        waiting-is s′ i h′ (q - 1) w eh eq ew
+        ∙ ap₂ holds
+        (kept h′ (q - 1) ∙ ring-turn z s i h′ (h + 1) (q - 1) (mod-mod (h + 1) (z .ring)) ∙ first .2)
+        (kept (h′ + (q - 1)) w ∙ ring-turn z s i (h′ + (q - 1)) (h + q) w turn)
+
+    -- ---- clear
+
+    pub clear-empties : waiting z (cleared z s i) i ≡ holds [] (waiting z s i .way)
+    unfolding waiting set₂ cleared
+    clear-empties =
+        let h : ℕ = head z s i in
+        let q : ℕ = queued z s i in
+        let w : ℕ = underWay z s i in
+        let h′ : ℕ = (h + q) % z .ring in
+        let p₁ : ℕ = z .ring in
+        let p₂ : ℕ = z .ring + 1 in
+        let s′ : List ℕ = set₂ p₁ h′ p₂ 0 in
+        let eh : head z s′ i ≡ h′ = mod-of (read₁ p₁ h′ p₂ 0 (omega arith) (omega arith)) (mod-lt _ (ok .some)) in
+        let eq : queued z s′ i ≡ 0 = mod-of (read₂ p₁ h′ p₂ 0 (omega arith)) (ok .some) in
+        let ew : underWay z s′ i ≡ w = ap (λ (y : ℕ). y % z .ring) (read₀ p₁ h′ p₂ 0 (z .ring + 2) (omega arith) (omega arith)) in
+        let kept : (a n : ℕ) → ringAt z s′ i a n ≡ ringAt z s i a n = λ a n. both-kept s i p₁ h′ p₂ 0 a n (omega arith) (omega arith) in
+        waiting-is s′ i h′ 0 w eh eq ew
+        ∙ ap₂ holds (ring-none z s′ i h′ 0 refl) (kept (h′ + 0) w ∙ rw (add-zero h′) (ring-turn z s i h′ (h + q) w (mod-mod (h + q) (z .ring))))

@@ -97,6 +97,11 @@ module _ (z : Sizes) where
   ring-first s i h zero x q e = absurd (let z : _≡_ {A = ℕ} 0 1 = cc in omega arith)
   ring-first s i h (suc n) x q e = let a : suc n - 1 ≡ n = omega arith in (cc, omega arith, rw a (cc))
 
+  pub ring-some : (s : List ℕ) (i h n : ℕ) → n ≢ 0 → ringAt z s i h n ≡ word s (slot z i h) ∷ ringAt z s i (h + 1) (n - 1)
+  unfolding ringAt
+  ring-some s i h zero l = absurd (l refl)
+  ring-some s i h (suc n) l = let a : suc n - 1 ≡ n = omega arith in rw a
+
   pub ring-length : (s : List ℕ) (i h n : ℕ) → length (ringAt z s i h n) ≡ n
   unfolding ringAt
   ring-length s i h zero = refl
