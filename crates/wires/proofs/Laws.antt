@@ -266,6 +266,66 @@ module _ (z : Sizes) (ok : Proper z) where
         waiting-is s′ i h′ q (w - 1) eh eq ew
         ∙ ap₂ holds (ring-none z s′ i h′ q none) (kept (h′ + q) (w - 1) ∙ ring-turn z s i (h′ + q) (h + q + 1) (w - 1) turn ∙ first .2)
 
+    pub skip-yes : queued z s i ≡ 0 → underWay z s i ≢ 0
+        → Skipped z s i (set (set s (headAt z i) ((head z s i + 1) % z .ring)) (wayAt z i) (underWay z s i - 1))
+    unfolding waiting skipped
+    skip-yes none ne =
+        let t : eqb (queued z s i) 0 ≡ true = eq-eqb _ _ none in
+        let e : eqb (underWay z s i) 0 ≡ false = ne-eqb _ _ ne in
+        let o = stored-twice s i (z .ring) ((head z s i + 1) % z .ring) (z .ring + 2) (underWay z s i - 1) (omega arith) (omega arith) in
+        let some = ring-some z s i (head z s i + queued z s i) (underWay z s i) ne in
+        record {
+          words = rw (t, e);
+          dropped = λ _ x l p. skip-drops none x l p;
+          noneUnderWay = λ p. absurd (ne (none-ring z s i _ _ p));
+          others = o;
+          formed = λ f. let r = within s i f in
+              kept-formed s _ i _ (simp length-set) o (skip-drops none _ _ some) (simp ring-length (omega arith)) f;
+        }
+
+    pub skip-empty : queued z s i ≡ 0 → underWay z s i ≡ 0 → Skipped z s i s
+    unfolding waiting skipped
+    skip-empty none e =
+        let t : eqb (queued z s i) 0 ≡ true = eq-eqb _ _ none in
+        let u : eqb (underWay z s i) 0 ≡ true = eq-eqb _ _ e in
+        record {
+          words = rw (t, u);
+          dropped = λ _ x l p. absurd (let r : 0 < underWay z s i = ring-first z s i _ _ x l p .1 in omega arith);
+          noneUnderWay = λ p. refl;
+          others = λ k _. refl;
+          formed = λ f. f;
+        }
+
+    pub skip-queued : queued z s i ≢ 0 → Skipped z s i s
+    unfolding waiting skipped
+    skip-queued ne =
+        let t : eqb (queued z s i) 0 ≡ false = ne-eqb _ _ ne in
+        record {
+          words = rw t;
+          dropped = λ p. absurd (ne (none-ring z s i _ _ p));
+          noneUnderWay = λ p. refl;
+          others = λ k _. refl;
+          formed = λ f. f;
+        }
+
+    pub skip-law : Skipped z s i (skipped z s i)
+    unfolding skipped
+    skip-law = go (eqb (queued z s i) 0) (eqb (underWay z s i) 0) refl refl
+      where
+        go : (a b : Bool) → eqb (queued z s i) 0 ≡ a → eqb (underWay z s i) 0 ≡ b → Skipped z s i (skipped z s i)
+        go true true d e = rw (d, e) (skip-empty (eqb-true _ _ d) (eqb-true _ _ e))
+        go true false d e = rw (d, e) (skip-yes (eqb-true _ _ d) (eqb-false _ _ e))
+        go false b d e = rw d (skip-queued (eqb-false _ _ d))
+
+    -- ---- first
+
+    pub first-law : First z s i (front z s i)
+    unfolding waiting front
+    first-law = record {
+      answer = refl;
+      headOf = λ x l p. rw (← mod-mod (word s (headAt z i)) (z .ring)) (ring-first z s i _ _ x l p .0);
+    }
+
     -- ---- take
 
     pub take-off : (x : ℕ) (l : List ℕ) → waiting z s i .queue ≡ x ∷ l
@@ -293,6 +353,48 @@ module _ (z : Sizes) (ok : Proper z) where
         (kept h′ (q - 1) ∙ ring-turn z s i h′ (h + 1) (q - 1) (mod-mod (h + 1) (z .ring)) ∙ first .2)
         (kept (h′ + (q - 1)) w ∙ ring-turn z s i (h′ + (q - 1)) (h + q) w turn)
 
+    pub take-yes : queued z s i ≢ 0
+        → Taken z s i (set (set s (headAt z i) ((head z s i + 1) % z .ring)) (queuedAt z i) (queued z s i - 1)) (word s (place z i (head z s i)))
+    unfolding waiting taken takenWord front
+    take-yes ne =
+        let e : eqb (queued z s i) 0 ≡ false = ne-eqb _ _ ne in
+        let o = stored-twice s i (z .ring) ((head z s i + 1) % z .ring) (z .ring + 1) (queued z s i - 1) (omega arith) (omega arith) in
+        let some = ring-some z s i (head z s i) (queued z s i) ne in
+        record {
+          words = rw e;
+          answer = rw e;
+          headOf = first-law .headOf;
+          off = λ x l p. take-off x l p;
+          noneQueued = λ p. absurd (ne (none-ring z s i _ _ p));
+          others = o;
+          formed = λ f. let r = within s i f in
+              kept-formed s _ i _ (simp length-set) o (take-off _ _ some) (simp ring-length (omega arith)) f;
+        }
+
+    pub take-no : queued z s i ≡ 0 → Taken z s i s 0
+    unfolding waiting taken takenWord
+    take-no e =
+        let t : eqb (queued z s i) 0 ≡ true = eq-eqb _ _ e in
+        let never : (x : ℕ) (l : List ℕ) → waiting z s i .queue ≡ x ∷ l → ⊥ =
+        λ x l p. let r : 0 < queued z s i = ring-first z s i _ _ x l p .1 in omega arith in
+        record {
+          words = rw t;
+          answer = rw t;
+          headOf = λ x l p. absurd (never x l p);
+          off = λ x l p. absurd (never x l p);
+          noneQueued = λ p. refl;
+          others = λ k _. refl;
+          formed = λ f. f;
+        }
+
+    pub take-law : Taken z s i (taken z s i) (takenWord z s i)
+    unfolding taken takenWord front
+    take-law = go (eqb (queued z s i) 0) refl
+      where
+        go : (b : Bool) → eqb (queued z s i) 0 ≡ b → Taken z s i (taken z s i) (takenWord z s i)
+        go true e = rw e (take-no (eqb-true _ _ e))
+        go false e = rw e (take-yes (eqb-false _ _ e))
+
     -- ---- clear
 
     pub clear-empties : waiting z (cleared z s i) i ≡ holds [] (waiting z s i .way)
@@ -311,3 +413,33 @@ module _ (z : Sizes) (ok : Proper z) where
         let kept : (a n : ℕ) → ringAt z s′ i a n ≡ ringAt z s i a n = λ a n. both-kept s i p₁ h′ p₂ 0 a n (omega arith) (omega arith) in
         waiting-is s′ i h′ 0 w eh eq ew
         ∙ ap₂ holds (ring-none z s′ i h′ 0 refl) (kept (h′ + 0) w ∙ rw (add-zero h′) (ring-turn z s i h′ (h + q) w (mod-mod (h + q) (z .ring))))
+
+    pub clear-law : Cleared z s i (cleared z s i)
+    unfolding cleared
+    clear-law =
+        let o = stored-twice s i (z .ring) ((head z s i + queued z s i) % z .ring) (z .ring + 1) 0 (omega arith) (omega arith) in
+        record {
+          words = refl;
+          emptied = clear-empties;
+          others = o;
+          formed = λ f. let r = within s i f in kept-formed s _ i _ (simp length-set) o clear-empties (simp way-length (omega arith)) f;
+        }
+
+  -- ---- the empty store
+
+  zeros : (n p : ℕ) → word (replicate n 0) p ≡ 0
+  zeros zero p = refl
+  zeros (suc n) zero = refl
+  zeros (suc n) (suc p) = zeros n p
+
+  pub none-waits : (k : ℕ) → waiting z (none z) k ≡ holds [] []
+  unfolding none
+  none-waits k =
+      let n : ℕ = z .wires * stride z in
+      let e : (p : ℕ) → word (replicate n 0) p % z .ring ≡ 0 = λ p. mod-of (zeros n p) (ok .some) in
+      waiting-is (replicate n 0) k 0 0 0 (e (headAt z k)) (e (queuedAt z k)) (e (wayAt z k))
+      ∙ ap₂ holds (ring-none z (replicate n 0) k 0 0 refl) (ring-none z (replicate n 0) k (0 + 0) 0 refl)
+
+  pub none-formed : Formed z (none z)
+  unfolding none
+  none-formed = record { size = length-replicate _ 0; room = λ k. rw (none-waits k) (omega arith) }
