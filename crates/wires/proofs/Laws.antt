@@ -13,7 +13,7 @@ use lib.Dec.{eqb, ltb}
 use lib.ListN.{length, getD, set, replicate, length-set, length-append, length-replicate}
 use borrow.Author.Tests.{ltb-true, ltb-false, eqb-true, eqb-false, lt-ltb, le-ltb, eq-eqb, ne-eqb}
 use Rattle.rules.specs.Sets.{word}
-use Rattle.wires.specs.Wires.{Sizes, Proper, Waiting, Formed, stride, place, slot, headAt, queuedAt, wayAt, head, queued, underWay, ringAt, waiting, none, hasRoom, pushed, arrived, oldest, skipped, front, taken, takenWord, cleared, Others, joinWay, Pushed, Arrived, Skipped, First, Taken, Cleared}
+use Rattle.wires.specs.Wires.{Sizes, sixteen, Proper, Waiting, Formed, stride, place, slot, headAt, queuedAt, wayAt, head, queued, underWay, ringAt, waiting, none, hasRoom, pushed, arrived, oldest, skipped, front, taken, takenWord, cleared, Others, joinWay, Pushed, Arrived, Skipped, First, Taken, Cleared, Empty}
 use Rattle.wires.proofs.Ring.{turn-apart, read-same, read-beside, read-elsewhere, ring-agree, ring-turn, ring-more, ring-first, ring-some, ring-length, ring-none, none-ring}
 
 -- a wire that holds these two lists
@@ -110,8 +110,8 @@ module _ (z : Sizes) (ok : Proper z) where
         ap (λ (y : ℕ). y % z .ring) (read-same z s₁ i (z .ring + 2) (w + 1) size₁ here (omega arith)) ∙ mod-eq-of-lt (omega arith) in
         let old : (b n : ℕ) → h ≤ b → b + n ≤ a → ringAt z s₂ i b n ≡ ringAt z s i b n =
         λ b n lb ln.
-            ring-kept s₁ i (z .ring + 2) (w + 1) b n (omega arith)
-            ∙ ring-agree z s s₁ i b b n (λ j lj. read-beside z s i (a % z .ring) ((b + j) % z .ring) x (turn-apart (z .ring) (b + j) a (omega arith) (omega arith))) in
+        ring-kept s₁ i (z .ring + 2) (w + 1) b n (omega arith)
+        ∙ ring-agree z s s₁ i b b n (λ j lj. read-beside z s i (a % z .ring) ((b + j) % z .ring) x (turn-apart (z .ring) (b + j) a (omega arith) (omega arith))) in
         let new : word s₂ (slot z i a) ≡ x =
         read-beside z s₁ i (z .ring + 2) (a % z .ring) (w + 1) (omega arith) ∙ read-same z s i (a % z .ring) x size here (omega arith) in
         let way : ringAt z s₂ i (h + q) (w + 1) ≡ ringAt z s i (h + q) w ++ (x ∷ []) =
@@ -443,3 +443,10 @@ module _ (z : Sizes) (ok : Proper z) where
   pub none-formed : Formed z (none z)
   unfolding none
   none-formed = record { size = length-replicate _ 0; room = λ k. rw (none-waits k) (omega arith) }
+
+  pub none-law : Empty z (none z)
+  none-law = record { words = refl; nothing = none-waits; formed = none-formed }
+
+-- the hub's own sizes are proper
+pub sixteen-proper : Proper sixteen
+sixteen-proper = record { some = omega arith; less = omega arith }

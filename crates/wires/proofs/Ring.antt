@@ -22,16 +22,21 @@ turn-apart ring a b l t e = elim (decLt (x + d) ring) [ yes h ↦ below h | no h
   where
     d : ℕ
     d = b - a
+
     x : ℕ
     x = a % ring
+
     low : x < ring
     low = mod-lt a (omega arith)
+
     far : (x + d) % ring ≡ x
     far =
         let q : a + d ≡ b = omega arith in
         mod-add-mod a ring d ∙ ap (λ (y : ℕ). y % ring) q ∙ sym e
+
     below : x + d < ring → ⊥
     below h = let q : x + d ≡ x = sym (mod-eq-of-lt h) ∙ far in omega arith
+
     beyond : ¬ (x + d < ring) → ⊥
     beyond h =
         let m : ring ≤ x + d = omega arith in

@@ -166,6 +166,11 @@ pub record Skipped (z : Sizes) (s : List ℕ) (i : ℕ) (s′ : List ℕ) : Type
   pub others : Others z s i s′
   pub formed : Formed z s → Formed z s′
 
+-- a count, in the store's words and in lists
+pub record Counted (n : ℕ) (l : List ℕ) (r : ℕ) : Type 0 where
+  pub answer : r ≡ n
+  pub list : r ≡ length l
+
 pub record First (z : Sizes) (s : List ℕ) (i r : ℕ) : Type 0 where
   pub answer : r ≡ front z s i
   pub headOf : (x : ℕ) (q : List ℕ) → waiting z s i .queue ≡ x ∷ q → r ≡ x
@@ -184,3 +189,8 @@ pub record Cleared (z : Sizes) (s : List ℕ) (i : ℕ) (s′ : List ℕ) : Type
   pub emptied : waiting z s′ i ≡ record { queue = []; way = waiting z s i .way }
   pub others : Others z s i s′
   pub formed : Formed z s → Formed z s′
+
+pub record Empty (z : Sizes) (s : List ℕ) : Type 0 where
+  pub words : s ≡ none z
+  pub nothing : (k : ℕ) → waiting z s k ≡ record { queue = []; way = [] }
+  pub formed : Formed z s
