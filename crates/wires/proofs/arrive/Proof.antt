@@ -1,17 +1,7 @@
 -- `wires::arrive` meets its contract: the words it leaves are those of the law of arrivals. Assumes nothing.
--- `wires::arrive` meets its contract: the words it leaves are those of the law of arrivals. Assumes nothing.
--- `wires::arrive` meets its contract: the words it leaves are those of the law of arrivals. Assumes nothing.
 use borrow.Author.Needs.{needs}
 use lib.ListN.{length-set}
 use native.Mathlib.Omega.{arith}
-use lib.ListN.{length-set}
-use native.Mathlib.Omega.{arith}
-use lib.ListN.{length-set}
-use native.Mathlib.Omega.{arith}
-use Rattle.wires.specs.Wires.{sixteen}
-use Rattle.wires.proofs.Laws.{arrive-yes, arrive-no, sixteen-proper}
-use Rattle.wires.specs.Wires.{sixteen}
-use Rattle.wires.proofs.Laws.{arrive-yes, arrive-no, sixteen-proper}
 use Rattle.wires.specs.Wires.{sixteen}
 use Rattle.wires.proofs.Laws.{arrive-yes, arrive-no, sixteen-proper}
 use Rattle.wires.proofs.arrive.Statement.{statement}

@@ -1,17 +1,7 @@
 -- `wires::clear` meets its contract: the words it leaves are those of the law of emptied queues. Assumes nothing.
--- `wires::clear` meets its contract: the words it leaves are those of the law of emptied queues. Assumes nothing.
--- `wires::clear` meets its contract: the words it leaves are those of the law of emptied queues. Assumes nothing.
 use borrow.Author.Needs.{needs}
 use lib.ListN.{length-set}
 use native.Mathlib.Omega.{arith}
-use lib.ListN.{length-set}
-use native.Mathlib.Omega.{arith}
-use lib.ListN.{length-set}
-use native.Mathlib.Omega.{arith}
-use Rattle.wires.specs.Wires.{sixteen, cleared}
-use Rattle.wires.proofs.Laws.{clear-law, sixteen-proper}
-use Rattle.wires.specs.Wires.{sixteen, cleared}
-use Rattle.wires.proofs.Laws.{clear-law, sixteen-proper}
 use Rattle.wires.specs.Wires.{sixteen, cleared}
 use Rattle.wires.proofs.Laws.{clear-law, sixteen-proper}
 use Rattle.wires.proofs.clear.Statement.{statement}
@@ -63,10 +53,6 @@ same-length : tie.Need-same-length
 same-length c = search needs
 
 returns : tie.Need-returns
-unfolding cleared
-
-unfolding cleared
-
 unfolding cleared
 returns c = let p = c .before .before .pre in clear-law sixteen sixteen-proper _ _ (p .0) (p .1)
 

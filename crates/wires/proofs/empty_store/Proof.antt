@@ -1,20 +1,10 @@
 -- `wires::empty_store` meets its contract. Assumes nothing.
--- `wires::empty_store` meets its contract. Assumes nothing.
--- `wires::empty_store` meets its contract. Assumes nothing.
-use Rattle.wires.specs.Wires.{sixteen, none}
-use Rattle.wires.proofs.Laws.{none-law, sixteen-proper}
-use Rattle.wires.specs.Wires.{sixteen, none}
-use Rattle.wires.proofs.Laws.{none-law, sixteen-proper}
 use Rattle.wires.specs.Wires.{sixteen, none}
 use Rattle.wires.proofs.Laws.{none-law, sixteen-proper}
 use Rattle.wires.proofs.empty_store.Statement.{statement}
 use Rattle.wires.proofs.empty_store.Tie as tie
 
 returns : tie.Need-returns
-unfolding none
-
-unfolding none
-
 unfolding none
 returns c = none-law sixteen sixteen-proper
 

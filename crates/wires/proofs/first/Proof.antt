@@ -1,11 +1,5 @@
 -- `wires::first` meets its contract. Assumes nothing.
--- `wires::first` meets its contract. Assumes nothing.
--- `wires::first` meets its contract. Assumes nothing.
 use borrow.Author.Needs.{needs}
-use Rattle.wires.specs.Wires.{sixteen, front}
-use Rattle.wires.proofs.Laws.{first-law, sixteen-proper}
-use Rattle.wires.specs.Wires.{sixteen, front}
-use Rattle.wires.proofs.Laws.{first-law, sixteen-proper}
 use Rattle.wires.specs.Wires.{sixteen, front}
 use Rattle.wires.proofs.Laws.{first-law, sixteen-proper}
 use Rattle.wires.proofs.first.Statement.{statement}
@@ -36,10 +30,6 @@ shared-slice-read-result : tie.Need-shared-slice-read-result
 shared-slice-read-result c = search needs
 
 returns : tie.Need-returns
-unfolding front
-
-unfolding front
-
 unfolding front
 returns c = let p = c .before .before .pre in first-law sixteen sixteen-proper _ _ (p .0) (p .1)
 

@@ -1,17 +1,7 @@
 -- `wires::push` meets its contract: the words it leaves are those of the law of pushes. Assumes nothing.
--- `wires::push` meets its contract: the words it leaves are those of the law of pushes. Assumes nothing.
--- `wires::push` meets its contract: the words it leaves are those of the law of pushes. Assumes nothing.
 use borrow.Author.Needs.{needs}
 use lib.ListN.{length-set}
 use native.Mathlib.Omega.{arith}
-use lib.ListN.{length-set}
-use native.Mathlib.Omega.{arith}
-use lib.ListN.{length-set}
-use native.Mathlib.Omega.{arith}
-use Rattle.wires.specs.Wires.{sixteen}
-use Rattle.wires.proofs.Laws.{push-yes, push-no, sixteen-proper}
-use Rattle.wires.specs.Wires.{sixteen}
-use Rattle.wires.proofs.Laws.{push-yes, push-no, sixteen-proper}
 use Rattle.wires.specs.Wires.{sixteen}
 use Rattle.wires.proofs.Laws.{push-yes, push-no, sixteen-proper}
 use Rattle.wires.proofs.push.Statement.{statement}

@@ -1,14 +1,6 @@
 -- `wires::queued` meets its contract. Assumes nothing.
--- `wires::queued` meets its contract. Assumes nothing.
--- `wires::queued` meets its contract. Assumes nothing.
 use borrow.Author.Needs.{needs}
 use mathlib.Core.Path.{refl, sym}
-use mathlib.Core.Path.{refl, sym}
-use mathlib.Core.Path.{refl, sym}
-use Rattle.wires.specs.Wires.{sixteen}
-use Rattle.wires.proofs.Laws.{queue-length, sixteen-proper}
-use Rattle.wires.specs.Wires.{sixteen}
-use Rattle.wires.proofs.Laws.{queue-length, sixteen-proper}
 use Rattle.wires.specs.Wires.{sixteen}
 use Rattle.wires.proofs.Laws.{queue-length}
 use Rattle.wires.proofs.queued.Statement.{statement}

@@ -1,17 +1,7 @@
 -- `wires::skip` meets its contract: the words it leaves are those of the law of messages dropped. Assumes nothing.
--- `wires::skip` meets its contract: the words it leaves are those of the law of messages dropped. Assumes nothing.
--- `wires::skip` meets its contract: the words it leaves are those of the law of messages dropped. Assumes nothing.
 use borrow.Author.Needs.{needs}
 use lib.ListN.{length-set}
 use native.Mathlib.Omega.{arith}
-use lib.ListN.{length-set}
-use native.Mathlib.Omega.{arith}
-use lib.ListN.{length-set}
-use native.Mathlib.Omega.{arith}
-use Rattle.wires.specs.Wires.{sixteen}
-use Rattle.wires.proofs.Laws.{skip-yes, skip-empty, skip-queued, sixteen-proper}
-use Rattle.wires.specs.Wires.{sixteen}
-use Rattle.wires.proofs.Laws.{skip-yes, skip-empty, skip-queued, sixteen-proper}
 use Rattle.wires.specs.Wires.{sixteen}
 use Rattle.wires.proofs.Laws.{skip-yes, skip-empty, skip-queued, sixteen-proper}
 use Rattle.wires.proofs.skip.Statement.{statement}

@@ -1,17 +1,7 @@
 -- `wires::take` meets its contract: the words it leaves are those of the law of messages taken. Assumes nothing.
--- `wires::take` meets its contract: the words it leaves are those of the law of messages taken. Assumes nothing.
--- `wires::take` meets its contract: the words it leaves are those of the law of messages taken. Assumes nothing.
 use borrow.Author.Needs.{needs}
 use lib.ListN.{length-set}
 use native.Mathlib.Omega.{arith}
-use lib.ListN.{length-set}
-use native.Mathlib.Omega.{arith}
-use lib.ListN.{length-set}
-use native.Mathlib.Omega.{arith}
-use Rattle.wires.specs.Wires.{sixteen}
-use Rattle.wires.proofs.Laws.{take-yes, take-no, sixteen-proper}
-use Rattle.wires.specs.Wires.{sixteen}
-use Rattle.wires.proofs.Laws.{take-yes, take-no, sixteen-proper}
 use Rattle.wires.specs.Wires.{sixteen}
 use Rattle.wires.proofs.Laws.{take-yes, take-no, sixteen-proper}
 use Rattle.wires.proofs.take.Statement.{statement}

@@ -1,14 +1,6 @@
 -- `wires::under_way` meets its contract. Assumes nothing.
--- `wires::under_way` meets its contract. Assumes nothing.
--- `wires::under_way` meets its contract. Assumes nothing.
 use borrow.Author.Needs.{needs}
 use mathlib.Core.Path.{refl, sym}
-use mathlib.Core.Path.{refl, sym}
-use mathlib.Core.Path.{refl, sym}
-use Rattle.wires.specs.Wires.{sixteen}
-use Rattle.wires.proofs.Laws.{way-length, sixteen-proper}
-use Rattle.wires.specs.Wires.{sixteen}
-use Rattle.wires.proofs.Laws.{way-length, sixteen-proper}
 use Rattle.wires.specs.Wires.{sixteen}
 use Rattle.wires.proofs.Laws.{way-length}
 use Rattle.wires.proofs.under_way.Statement.{statement}
