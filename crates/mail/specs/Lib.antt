@@ -1,2 +1,3 @@
 pub mod Post
-pub mod Counts
+pub mod Letter
+pub mod Gather

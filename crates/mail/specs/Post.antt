@@ -27,7 +27,3 @@ postLists i origins known n p = forEach origins (λ k. postWord i (wordOf (neigh
 
 unfoldable pub postIf : Bool → ℕ → ℕ → Posted → Posted
 postIf c i s p = cond c (postWord i (wordOf (notspt s)) p) p
-
--- all that goes to one link: NOTSPT {own} where the box wakes; the lists and the set where it does a round
-unfoldable pub postLink : ℕ → Bool → ℕ → Bool → ℕ → ℕ → List ℕ → Posted → Posted
-postLink i wakes own round origins s known p = postIf round i s (postLists i (cond round origins 0) known 16 (postIf wakes i (2 ^ own) p))
