@@ -1,6 +1,6 @@
 -- The link sheet: what reading and writing answer. Document 01, "The link sheet" and "Numbers given when the hub refuses".
 -- w is the most boxes that a sheet can have. Definitions alone.
-use Prim.Native.Nat.{ℕ, zero, suc, _+_, _-_, _*_, _/_, _^_, _≤_}
+use Prim.Native.Nat.{ℕ, zero, suc, _+_, _-_, _*_, _/_, _^_, _≤_, _<_}
 use mathlib.Core.Path.{_≡_}
 use mathlib.Core.Bool.{Bool, true, false, not, _&&_, _||_, cond}
 use mathlib.Core.List.{List, [], _∷_, _++_}
@@ -84,9 +84,9 @@ writeSheet w n t size =
 
 -- ---- the round trip, as statements
 
--- "Reading a written sheet gives the table back"
+-- "Reading a written sheet gives the table back": a table of w-bit words
 abbrev pub ReadsBack : ℕ → Type 0
-ReadsBack w = (n : ℕ) (t : List ℕ) (size : ℕ) (bytes : List ℕ) → writeSheet w n t size ≡ accepted bytes
+ReadsBack w = (n : ℕ) (t : List ℕ) (size : ℕ) (bytes : List ℕ) → ((i : ℕ) → word t i < 2 ^ w) → writeSheet w n t size ≡ accepted bytes
     → readSheet w bytes ≡ accepted (record { boxes = n; links = linkCount w t; table = t })
 
 -- "Writing a read one gives its last B bytes"
