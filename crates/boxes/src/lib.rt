@@ -298,3 +298,12 @@ pub fn step(r: Record, a: Arrival) -> Stepped
     }
     work(r, a)
 }
+
+// "a delivery rewrites the receiver's record where it sits": the step by value, its record stored back, what goes out handed on.
+pub fn deliver(r: &mut Record, a: Arrival) -> Departure
+    ensures { λ q. ⌜ (now (r .exit) ≡ stepDef (now (r .entry)) a .«record») × (q ≡ stepDef (now (r .entry)) a .out) ⌝ }
+{
+    let s = step(*r, a);
+    *r = s.record;
+    s.out
+}
