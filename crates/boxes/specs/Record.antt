@@ -1,6 +1,7 @@
 -- A box's record in the code, and the record of the rules: the same six fields, so that the rules' definitions speak of records.
 -- Proved: each is the other's inverse. Assumes nothing.
 use mathlib.Core.Path.{_≡_, refl}
+use mathlib.Core.List.{[]}
 use Rattle.rules.specs.Box.{Box}
 use Rattle.boxes.specs.declared.Record.{Record}
 
@@ -31,3 +32,7 @@ box-record b = refl
 pub record-box : (r : Record) → recordOf (boxOf r) ≡ r
 unfolding boxOf recordOf
 record-box r = refl
+
+-- what a row reads past its end
+abbrev pub blank : Record
+blank = record { state = 0; hop = 0; nodes = []; «in_spt» = []; «not_spt» = []; neighbors = [] }

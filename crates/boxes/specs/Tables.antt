@@ -1,13 +1,12 @@
 -- Laws of sets and of tables of sets, over any number of boxes: what a loop over a table needs. Assumes nothing.
 use Prim.Native.Nat.{ℕ, zero, suc, _+_, _-_, _*_, _/_, _%_, _^_, _<_, _≤_, max}
 use native.Mathlib.Omega.{arith}
-use native.Mathlib.Nat.{zero-div, zero-mod}
+use native.Mathlib.Nat.{zero-div}
 use native.Mathlib.Decide.{decLt}
-use mathlib.Core.Path.{_≡_, refl, sym, ap, _∙_}
+use mathlib.Core.Path.{_≡_, refl}
 use mathlib.Core.Bool.{Bool, true, false, cond}
 use mathlib.Core.List.{List, [], _∷_, _++_}
 use lib.Bits.{bitAnd, bitOr, or-step, or-zero-l, or-zero-r, or-comm, and-zero-l}
-use lib.Dec.{eqb}
 use lib.ListN.{length, set, getD, take, length-set, length-append, List·getD-append}
 use lib.Seq.{set-out, set-set, set-getD, getD-set-same, getD-set-other, take-suc-set, getD-append-seam}
 use Rattle.rules.specs.Sets.{mem, without, word, union, joinAt, each, words, forEach}

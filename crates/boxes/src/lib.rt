@@ -4,10 +4,10 @@ ghost use mathlib.Core.Path.{_≡_};
 ghost use Prim.Native.Nat.{ℕ, suc, _+_, _%_, _^_, _<_};
 ghost use mathlib.Core.Bool.{cond};
 ghost use lib.Dec.{eqb};
-ghost use lib.ListN.{length};
+ghost use lib.ListN.{length, set, getD};
 ghost use Rattle.rules.specs.Sets.{mem, without, word, union};
 ghost use Rattle.rules.specs.Box.{asleep, started, takeSets, before};
-ghost use Rattle.boxes.specs.Record.{boxOf, recordOf};
+ghost use Rattle.boxes.specs.Record.{boxOf, recordOf, blank};
 ghost use Rattle.boxes.specs.Step.{hopped, withoutEach, saveAll, settled, rounded, worked, stepDef};
 
 // state: 0 asleep, 1 awake, 2 stopped. "A record carries its arrays with it, tables and counts together."
@@ -76,7 +76,7 @@ fn if_in(s: u16, k: usize, a: u16, b: u16) -> u16
 }
 
 // The boxes of a that are not in b.
-pub fn minus(a: u16, b: u16) -> u16
+fn minus(a: u16, b: u16) -> u16
     ensures { λ r. ⌜ r ≡ without a b ⌝ }
 {
     a - (a & b)
@@ -91,7 +91,7 @@ pub fn only(k: usize) -> u16
 }
 
 // What a table has at k, 0 past its end.
-pub fn entry(t: [u16; 16], k: usize) -> u16
+fn entry(t: [u16; 16], k: usize) -> u16
     ensures { λ r. ⌜ r ≡ word t k ⌝ }
 {
     if k < 16 {
@@ -101,7 +101,7 @@ pub fn entry(t: [u16; 16], k: usize) -> u16
 }
 
 // The union of a table's sets.
-pub fn union_of(t: [u16; 16]) -> u16
+fn union_of(t: [u16; 16]) -> u16
     ensures { λ r. ⌜ r ≡ union 16 t ⌝ }
 {
     let mut u: u16 = 0;
@@ -112,7 +112,7 @@ pub fn union_of(t: [u16; 16]) -> u16
 }
 
 // By link, the set s without the table's set for that link.
-pub fn without_each(s: u16, t: [u16; 16]) -> [u16; 16]
+fn without_each(s: u16, t: [u16; 16]) -> [u16; 16]
     ensures { λ q. ⌜ q ≡ withoutEach s t ⌝ }
 {
     let mut out: [u16; 16] = [0; 16];
@@ -137,7 +137,7 @@ pub fn save_all(t: [u16; 16], listed: u16, lists: [u16; 16]) -> [u16; 16]
 }
 
 // Nodes(HOP-1), nothing in round 0.
-pub fn before_of(hop: u16, nodes: [u16; 16]) -> u16
+fn before_of(hop: u16, nodes: [u16; 16]) -> u16
     ensures { λ r. ⌜ r ≡ before hop nodes ⌝ }
 {
     if hop == 0 {
@@ -306,4 +306,12 @@ pub fn deliver(r: &mut Record, a: Arrival) -> Departure
     let s = step(*r, a);
     *r = s.record;
     s.out
+}
+
+// "The boxes' records stand side by side in one lent row": the receiver's record is lent on, and all others stay as they are.
+pub fn deliver_at(row: &mut [Record], b: usize, a: Arrival) -> Departure
+    requires { ⌜ b < length (now row) ⌝ }
+    ensures { λ q. ⌜ (now (row .exit) ≡ set (now (row .entry)) b (stepDef (getD (now (row .entry)) b blank) a .«record»)) × (q ≡ stepDef (getD (now (row .entry)) b blank) a .out) ⌝ }
+{
+    deliver(&mut row[b], a)
 }
