@@ -70,6 +70,10 @@ unfoldable pub settled : Arrival → List ℕ → List ℕ → Box → Stepped
 settled a sets origins b = record {
   «record» = recordOf (saved a b);
   out = record {
+    own = a .own;
+    «from» = a .«from»;
+    moved = a .moved;
+    heard = a .heard;
     wakes = a .wakes;
     round = a .round;
     stops = isStopped b;

@@ -22,9 +22,12 @@ pub struct Record {
 
 // What has come for a box, gathered from the wires before its record is touched.
 pub struct Arrival {
-    // the receiving box, and its link set
+    // the receiving box and its link set, and the box that the message came from
     pub own: usize,
+    pub from: usize,
     pub links: u16,
+    // a message was taken off its wire
+    pub moved: bool,
     // it starts first
     pub wakes: bool,
     // every link has a NOTSPT at its head: a round is done
@@ -34,10 +37,16 @@ pub struct Arrival {
     // the origins whose lists are saved, after the round where there is one, and those lists, by origin
     pub listed: u16,
     pub lists: [u16; 16],
+    // the links whose queue holds a message after that
+    pub heard: u16,
 }
 
-// What goes out.
+// What goes out, with what the turn has to know of the arrival.
 pub struct Departure {
+    pub own: usize,
+    pub from: usize,
+    pub moved: bool,
+    pub heard: u16,
     // NOTSPT {own} goes out on every link first
     pub wakes: bool,
     // then, for each link, the lists and the set of the round
@@ -59,35 +68,12 @@ pub struct Stepped {
 
 // ---- sets of boxes, and tables of 16 of them
 
-// Whether box k is in the set s.
-pub fn is_in(s: u16, k: usize) -> bool
-    requires { ⌜ k < 16 ⌝ }
-    ensures { λ r. ⌜ r ≡ mem k s ⌝ }
-{
-    (s >> k) % 2 == 1
-}
-
 // a where box k is in the set s, else b.
 fn if_in(s: u16, k: usize, a: u16, b: u16) -> u16
     requires { ⌜ k < 16 ⌝ }
     ensures { λ r. ⌜ r ≡ cond (mem k s) a b ⌝ }
 {
-    if is_in(s, k) { a } else { b }
-}
-
-// The boxes of a that are not in b.
-fn minus(a: u16, b: u16) -> u16
-    ensures { λ r. ⌜ r ≡ without a b ⌝ }
-{
-    a - (a & b)
-}
-
-// The set of box k alone.
-pub fn only(k: usize) -> u16
-    requires { ⌜ k < 16 ⌝ }
-    ensures { λ r. ⌜ r ≡ 2 ^ k ⌝ }
-{
-    1 << k
+    if sets::is_in(s, k) { a } else { b }
 }
 
 // What a table has at k, 0 past its end.
@@ -117,7 +103,7 @@ fn without_each(s: u16, t: [u16; 16]) -> [u16; 16]
 {
     let mut out: [u16; 16] = [0; 16];
     for j in 0..16 {
-        out[j] = minus(s, t[j]);
+        out[j] = sets::minus(s, t[j]);
     }
     out
 }
@@ -170,7 +156,7 @@ pub fn started(i: usize, links: u16) -> Record
     let own = i % 16;
     let none: [u16; 16] = [0; 16];
     let mut nodes = none;
-    nodes[0] = only(own);
+    nodes[0] = sets::only(own);
     let mut lists = none;
     lists[own] = links;
     Record {
@@ -203,7 +189,7 @@ pub fn take_sets(r: Record, links: u16, heads: [u16; 16]) -> Record
     let mut q = r;
     for j in 0..16 {
         let s = if_in(links, j, heads[j], 0);
-        let new = minus(s, known);
+        let new = sets::minus(s, known);
         known = known | new;
         gained = gained | new;
         q.in_spt[j] = q.in_spt[j] | new;
@@ -237,6 +223,10 @@ fn settle(b: Record, a: Arrival, sets: [u16; 16], origins: [u16; 16]) -> Stepped
     let known = b.neighbors;
     let stops = b.state == 2;
     let out = Departure {
+        own: a.own,
+        from: a.from,
+        moved: a.moved,
+        heard: a.heard,
         wakes: a.wakes,
         round: a.round,
         stops: stops,

@@ -7,12 +7,13 @@ use lib.Bits.{bitOr}
 use lib.Dec.{eqb, ltb}
 use lib.ListN.{length, getD, set, replicate}
 use Rattle.rules.specs.Sets.{mem, without, word, least, any, forEach}
+use Rattle.rules.specs.Box.{asleep}
 use Rattle.wires.specs.Wires.{sixteen, none, queued, underWay, arrived, oldest, skipped, taken}
 use Rattle.wires.specs.Words.{isList, originOf, setOf}
 use Rattle.boxes.specs.declared.Record.{Record}
 use Rattle.boxes.specs.declared.Arrival.{Arrival}
 use Rattle.boxes.specs.declared.Departure.{Departure}
-use Rattle.boxes.specs.Record.{recordOf}
+use Rattle.boxes.specs.Record.{recordOf, blank}
 use Rattle.boxes.specs.Step.{stepDef}
 use Rattle.mail.specs.declared.Letter.{Letter}
 use Rattle.mail.specs.Post.{Posted}
@@ -149,6 +150,10 @@ lessBusy s o busy =
 unfoldable pub moreBusy : Departure → ℕ → List ℕ → List ℕ
 moreBusy o links busy = let b = o .own % 16 in cond (o .wakes || o .round) (set busy b (bitOr (word busy b) links)) busy
 
+-- the box has stopped in this turn: at its start, for want of links, or in its round
+unfoldable pub ends : Departure → Bool
+ends o = o .stops && (o .wakes || o .round)
+
 pub record Put : Type 0 where
   pub store : List ℕ
   pub turn : Turn
@@ -164,10 +169,10 @@ nextTurn c o s p =
       sent = p .sent;
       moved = cond (o .moved) ((c .moved + 1) % 4294967296) (c .moved);
       full = p .full;
-      awake = cond (o .stops) (without (c .awake) (2 ^ b)) (cond (o .wakes) (bitOr (c .awake) (2 ^ b)) (c .awake));
-      stopped = cond (o .stops) (bitOr (c .stopped) (2 ^ b)) (c .stopped);
+      awake = cond (ends o) (without (c .awake) (2 ^ b)) (cond (o .wakes) (bitOr (c .awake) (2 ^ b)) (c .awake));
+      stopped = cond (ends o) (bitOr (c .stopped) (2 ^ b)) (c .stopped);
       links = c .links;
-      heard = set (c .heard) b (cond (o .stops) 0 (o .heard));
+      heard = set (c .heard) b (cond (ends o) 0 (o .heard));
       busy = moreBusy o (word (c .links) b) (lessBusy s o (c .busy));
     }
 
@@ -176,7 +181,7 @@ unfoldable pub putDef : List ℕ → Departure → Turn → Put
 putDef s o c =
     let b = o .own % 16 in
     let links = word (c .links) b in
-    let cleared = cond (o .stops) (clearTo b links 16 s) s in
+    let cleared = cond (ends o) (clearTo b links 16 s) s in
     let p = postTo o links 16 (record { store = cleared; sent = c .sent; full = c .full }) in
     record { store = p .store; turn = nextTurn c o s p }
 
@@ -187,14 +192,11 @@ pub record Going : Type 0 where
   pub store : List ℕ
   pub turn : Turn
 
-abbrev pub noRecord : Record
-noRecord = record { state = 0; hop = 0; nodes = []; «in_spt» = []; «not_spt» = []; neighbors = [] }
-
 unfoldable pub turnDef : List ℕ → Going → Going
 turnDef list g =
     let k = tookDef list (g .store) (g .turn) in
     let b = k .arrival .own in
-    let q = stepDef (getD (g .row) b noRecord) (k .arrival) in
+    let q = stepDef (getD (g .row) b blank) (k .arrival) in
     let p = putDef (k .store) (q .out) (g .turn) in
     record { row = set (g .row) b (q .«record»); store = p .store; turn = p .turn }
 
@@ -221,7 +223,7 @@ firstTurn links pairs budget = record {
 }
 
 abbrev pub asleepRow : List Record
-asleepRow = replicate 16 (recordOf (Rattle.rules.specs.Box.asleep 16))
+asleepRow = replicate 16 (recordOf (asleep 16))
 
 unfoldable pub ownDef : List ℕ → List ℕ → ℕ → Going
 ownDef list links budget =

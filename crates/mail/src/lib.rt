@@ -35,7 +35,14 @@ pub fn post(store: &mut [u32], i: usize, word: u32, c: Counts) -> Counts
 }
 
 // The list of origin k joins wire i, where k is one of the origins.
-fn post_list(store: &mut [u32], i: usize, k: usize, origins: u16, known: [u16; 16], c: Counts) -> Counts
+fn post_list(
+    store: &mut [u32],
+    i: usize,
+    k: usize,
+    origins: u16,
+    known: [u16; 16],
+    c: Counts,
+) -> Counts
     requires { ⌜ (length (now store) ≡ 9216) × ((i < 256) × (k < 16)) ⌝ }
     ensures { λ r. ⌜ posted (now (store .exit)) r ≡ cond (mem k origins) (postWord i (wordOf (neighbors k (word known k))) (posted (now (store .entry)) c)) (posted (now (store .entry)) c) ⌝ }
 {
