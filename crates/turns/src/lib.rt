@@ -1,4 +1,4 @@
-// The hub: the run of a list of deliveries and the drain, turn by turn, and the board. Document 01, "Lists and the drain".
+// A run of the hub, turn by turn: the next pair, what it brings, what goes out. Document 01, "Lists and the drain".
 
 // The wire that is served next: a start where both ends are one box. some: there is one.
 pub struct Pair {

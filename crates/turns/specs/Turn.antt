@@ -19,8 +19,8 @@ use Rattle.mail.specs.declared.Letter.{Letter}
 use Rattle.mail.specs.Post.{Posted}
 use Rattle.mail.specs.Letter.{postLink}
 use Rattle.mail.specs.Gather.{Got, gotNothing, wireOf, gatherTo, clearTo}
-use Rattle.hub.specs.declared.Turn.{Turn}
-use Rattle.hub.specs.declared.Pair.{Pair}
+use Rattle.turns.specs.declared.Turn.{Turn}
+use Rattle.turns.specs.declared.Pair.{Pair}
 
 -- ---- the next pair: of the list, while it lasts; then the first wire that holds a message
 
