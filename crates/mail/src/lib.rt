@@ -6,8 +6,11 @@ ghost use lib.ListN.{length};
 ghost use Rattle.rules.specs.Sets.{mem, word};
 ghost use Rattle.rules.specs.Box.{neighbors};
 ghost use Rattle.wires.specs.Words.{wordOf};
+ghost use Rattle.wires.specs.Wires.{sixteen, queued, cleared};
 ghost use Rattle.mail.specs.Post.{postWord, postLists, postIf};
 ghost use Rattle.mail.specs.Letter.{posted, postLink};
+ghost use Rattle.mail.specs.Gather.{gotNothing, wireOf, listAt, takeList, takeLists, takeHead, hear, gatherLink, gatherTo, clearTo};
+ghost use Rattle.mail.specs.Gathered.{got};
 
 // How many messages were sent, and whether one found no room on its wire (refusal 13).
 pub struct Counts {
@@ -57,6 +60,9 @@ fn post_lists(store: &mut [u32], i: usize, origins: u16, known: [u16; 16], c: Co
     requires { ⌜ (length (now store) ≡ 9216) × (i < 256) ⌝ }
     ensures { λ r. ⌜ posted (now (store .exit)) r ≡ postLists i origins known 16 (posted (now (store .entry)) c) ⌝ }
 {
+    if origins == 0 {
+        return c;
+    }
     let mut q = c;
     for k in 0..16 {
         q = post_list(store, i, k, origins, known, q);
@@ -96,4 +102,128 @@ pub fn post_link(store: &mut [u32], i: usize, l: Letter, known: [u16; 16], c: Co
         return post_if(true, store, i, l.set, then);
     }
     first
+}
+
+// ---- what has come
+
+// What a round takes off the queues of a box: the sets at the heads, by link; the origins whose lists stood behind them, and those lists, by origin;
+// the links whose queue still holds a message.
+pub struct Gathered {
+    pub heads: [u16; 16],
+    pub listed: u16,
+    pub lists: [u16; 16],
+    pub heard: u16,
+}
+
+// Whether a list stands at the head of the queue of wire i.
+fn list_at(store: &[u32], i: usize) -> bool
+    requires { ⌜ (length (now store) ≡ 9216) × (i < 256) ⌝ }
+    ensures { λ r. ⌜ r ≡ listAt (now (store .entry)) i ⌝ }
+{
+    if wires::queued(store, i) == 0 {
+        return false;
+    }
+    wires::is_list(wires::first(store, i))
+}
+
+// "Some queue has a Neighbors message at its head: take it and save its list."
+fn take_list(store: &mut [u32], i: usize, g: Gathered) -> Gathered
+    requires { ⌜ (length (now store) ≡ 9216) × (i < 256) ⌝ }
+    ensures { λ r. ⌜ got (now (store .exit)) r ≡ takeList i (got (now (store .entry)) g) ⌝ }
+{
+    let x = wires::take(store, i);
+    let k = wires::origin(x);
+    let mut q = g;
+    q.listed = g.listed | sets::only(k);
+    q.lists[k] = wires::set_of(x);
+    q
+}
+
+fn take_lists(store: &mut [u32], i: usize, g: Gathered) -> Gathered
+    requires { ⌜ (length (now store) ≡ 9216) × (i < 256) ⌝ }
+    ensures { λ r. ⌜ got (now (store .exit)) r ≡ takeLists (queued sixteen (now (store .entry)) i) i (got (now (store .entry)) g) ⌝ }
+{
+    let mut q = g;
+    while list_at(store, i) {
+        q = take_list(store, i, q);
+    }
+    q
+}
+
+// "Take one from each link": the head of link j.
+fn take_head(store: &mut [u32], i: usize, j: usize, g: Gathered) -> Gathered
+    requires { ⌜ (length (now store) ≡ 9216) × ((i < 256) × (j < 16)) ⌝ }
+    ensures { λ r. ⌜ got (now (store .exit)) r ≡ takeHead i j (got (now (store .entry)) g) ⌝ }
+{
+    let x = wires::take(store, i);
+    let mut q = g;
+    q.heads[j] = wires::set_of(x);
+    q
+}
+
+// Link j is heard where its queue is not empty.
+fn hear(store: &[u32], i: usize, j: usize, g: Gathered) -> Gathered
+    requires { ⌜ (length (now store) ≡ 9216) × ((i < 256) × (j < 16)) ⌝ }
+    ensures { λ r. ⌜ got (now (store .entry)) r ≡ hear i j (got (now (store .entry)) g) ⌝ }
+{
+    if wires::queued(store, i) == 0 {
+        return g;
+    }
+    let mut q = g;
+    q.heard = g.heard | sets::only(j);
+    q
+}
+
+// From link j to box b, where it is a link: the set at the head, then the lists behind it.
+fn gather_link(store: &mut [u32], b: usize, j: usize, links: u16, g: Gathered) -> Gathered
+    requires { ⌜ (length (now store) ≡ 9216) × ((b < 16) × (j < 16)) ⌝ }
+    ensures { λ r. ⌜ got (now (store .exit)) r ≡ cond (mem j links) (gatherLink b j (got (now (store .entry)) g)) (got (now (store .entry)) g) ⌝ }
+{
+    if sets::is_in(links, j) {
+        let i = j * 16 + b;
+        let head = take_head(store, i, j, g);
+        let lists = take_lists(store, i, head);
+        return hear(store, i, j, lists);
+    }
+    g
+}
+
+// All that a round of box b takes, ascending by link.
+pub fn gather(store: &mut [u32], b: usize, links: u16) -> Gathered
+    requires { ⌜ (length (now store) ≡ 9216) × (b < 16) ⌝ }
+    ensures { λ r. ⌜ got (now (store .exit)) r ≡ gatherTo b links 16 (gotNothing (now (store .entry))) ⌝ }
+{
+    let none: [u16; 16] = [0; 16];
+    let mut q = Gathered {
+        heads: none,
+        listed: 0,
+        lists: none,
+        heard: 0,
+    };
+    for j in 0..16 {
+        q = gather_link(store, b, j, links, q);
+    }
+    q
+}
+
+// ---- what is dropped
+
+// The queue of link j is emptied, where it is a link.
+fn clear_link(store: &mut [u32], b: usize, j: usize, links: u16)
+    requires { ⌜ (length (now store) ≡ 9216) × ((b < 16) × (j < 16)) ⌝ }
+    ensures { λ _. ⌜ now (store .exit) ≡ cond (mem j links) (cleared sixteen (now (store .entry)) (wireOf j b)) (now (store .entry)) ⌝ }
+{
+    if sets::is_in(links, j) {
+        wires::clear(store, j * 16 + b);
+    }
+}
+
+// "A stopping box empties its queues."
+pub fn clear_all(store: &mut [u32], b: usize, links: u16)
+    requires { ⌜ (length (now store) ≡ 9216) × (b < 16) ⌝ }
+    ensures { λ _. ⌜ now (store .exit) ≡ clearTo b links 16 (now (store .entry)) ⌝ }
+{
+    for j in 0..16 {
+        clear_link(store, b, j, links);
+    }
 }

@@ -1,29 +1,21 @@
-use Rattle.mail.proofs.Laws.{said-yes, said-no}
+-- `mail::post_if` meets its contract. Assumes nothing.
 use borrow.Author.Needs.{needs}
+use Rattle.mail.proofs.Laws.{said-yes, said-no}
 use Rattle.mail.proofs.post_if.Statement.{statement}
 use Rattle.mail.proofs.post_if.Tie as tie
-use Rattle.mail.proofs.post_if.Reads as reads
-use Rattle.mail.proofs.post_if.Lts as lts
-use Rattle.mail.proofs.post.Reads as post-reads
-use Rattle.wires.proofs.set_word.Reads as set-word-reads
 
--- src/lib.rt:66:31
 set-word-requires : tie.Need-set-word-requires
 set-word-requires c κs = search needs
 
--- src/lib.rt:66:9
 post-requires : tie.Need-post-requires
 post-requires c κs = search needs
 
--- src/lib.rt:66:9
 same-length : tie.Need-same-length
 same-length c = search needs
 
--- src/lib.rt:66:9
 returns : tie.Need-returns
-returns c = said-yes _ _ _ _ _ _ (c .before .before .before .before .before .before .if1 .taken) (c .before .before .before .before .before .set-word .ensures) (c .before .before .post .ensures)
+returns c = said-yes _ _ _ _ _ _ (c .before .before .before .before .before .if1 .taken) (c .before .before .before .set-word .ensures) (c .before .before .post .ensures)
 
--- src/lib.rt:61:1
 returns-2 : tie.Need-returns-2
 returns-2 c = said-no _ _ _ _ (c .if1 .left)
 
