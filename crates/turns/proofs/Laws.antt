@@ -14,9 +14,12 @@ use Rattle.rules.specs.Sets.{mem, without, word, least, any, forEach}
 use Rattle.sets.specs.Mem.{mem-empty}
 use Rattle.sets.specs.Loops.{least-le, least-hit, least-ok, any-in, any-out, by-bool, forEach-keeps}
 use Rattle.wires.specs.Words.{isList, originOf, setOf}
-use Rattle.wires.specs.Wires.{sixteen, queued, underWay, arrived, oldest, skipped, taken}
+use Rattle.wires.specs.Wires.{sixteen, none, queued, underWay, arrived, oldest, skipped, taken}
+use Rattle.boxes.specs.declared.Record.{Record}
 use Rattle.boxes.specs.declared.Arrival.{Arrival}
 use Rattle.boxes.specs.declared.Departure.{Departure}
+use Rattle.boxes.specs.Record.{blank}
+use Rattle.boxes.specs.Step.{stepDef}
 use Rattle.mail.specs.declared.Gathered.{Gathered}
 use Rattle.mail.specs.declared.Letter.{Letter}
 use Rattle.mail.specs.declared.Counts.{Counts}
@@ -27,8 +30,9 @@ use Rattle.mail.specs.Gathered.{got}
 use Rattle.mail.proofs.Laws.{picked-yes}
 use Rattle.turns.specs.declared.Turn.{Turn}
 use Rattle.turns.specs.declared.Pair.{Pair}
-use Rattle.turns.specs.Turn.{searched, nextPair, sleeps, quiet, heardAt, oneList, roundOf, tookRound, tookFirst, delivered, begun, tookPair, tookDef, Took, letter, postTo, lessBusy, moreBusy, ends, Put, nextTurn, putDef}
-use Rattle.turns.specs.Parts.{took, sending, lessOf, moreOf, turnAfter}
+use Rattle.turns.specs.declared.Ran.{Ran}
+use Rattle.turns.specs.Turn.{searched, nextPair, sleeps, quiet, heardAt, oneList, roundOf, tookRound, tookFirst, delivered, begun, tookPair, tookDef, Took, letter, postTo, lessBusy, moreBusy, ends, Put, nextTurn, putDef, Going, turnDef, turnsDef, asleepRow}
+use Rattle.turns.specs.Parts.{took, sending, lessOf, moreOf, turnAfter, going, ran, ranOf}
 
 -- ---- choices
 
@@ -308,3 +312,39 @@ put-is s s₁ s₂ o c r to p et e₁ e₂ er =
     let links : ℕ = word (c .links) (o .own % 16) in
     let all = e₂ ∙ ap (λ (z : List ℕ). postTo o links 16 (record { store = z; sent = c .sent; full = c .full })) e₁ in
     (er ∙ put-turn s s₂ o c to (p .sent) (p .full) et ∙ ap (nextTurn c o s) all, ap (λ (q : Posted). q .store) all)
+
+-- ---- a turn, and turns
+
+pub turn-is : (ls : List ℕ) (rs rs′ : List Record) (ss ss′ ss″ : List ℕ) (c r : Turn) (h : Arrival) (o : Departure)
+    → h ≡ tookDef ls ss c .arrival → ss′ ≡ tookDef ls ss c .store
+    → rs′ ≡ set rs (h .own) (stepDef (getD rs (h .own) blank) h .«record») → o ≡ stepDef (getD rs (h .own) blank) h .out
+    → r ≡ putDef ss′ o c .turn → ss″ ≡ putDef ss′ o c .store
+    → going rs′ ss″ r ≡ turnDef ls (going rs ss c)
+unfolding turnDef
+turn-is ls rs rs′ ss ss′ ss″ c r h o eh e′ er eo et e″ = rw (et, e″, eo, er, e′, eh)
+
+pub turns-over : (t : ℕ) (ls : List ℕ) (g : Going) → g .turn .left ≡ 0 → turnsDef t ls g ≡ g
+unfolding turnsDef
+turns-over zero ls g e = refl
+turns-over (suc t) ls g e = rw e
+
+pub turns-on : (t : ℕ) (ls : List ℕ) (g h : Going) → 1 ≤ g .turn .left → h ≡ turnDef ls g → turnsDef (suc t) ls g ≡ turnsDef t ls h
+unfolding turnsDef
+turns-on t ls g h l e = let n : eqb (g .turn .left) 0 ≡ false = ne-eqb (g .turn .left) 0 (λ z. omega arith) in rw (n, e)
+
+-- each turn leaves fewer
+pub turn-less : (t : ℕ) (ls : List ℕ) (g h : Going) → g .turn .left ≤ suc t → h ≡ turnDef ls g → h .turn .left ≤ t
+unfolding turnDef putDef nextTurn
+turn-less t ls g h l e =
+    rw e (pick (λ (k : ℕ). k ≤ t) (ltb (g .turn .at) (g .turn .pairs) || stepDef (getD (g .row) (tookDef ls (g .store) (g .turn) .arrival .own) blank) (tookDef ls (g .store) (g .turn) .arrival) .out .moved)
+    (omega arith) (omega arith))
+
+pub turn-pairs : (ls : List ℕ) (g h : Going) → h ≡ turnDef ls g → h .turn .pairs ≡ g .turn .pairs
+unfolding turnDef putDef nextTurn
+turn-pairs ls g h e = rw e
+
+-- from the sleeping row and the empty store
+pub ran-is : (n : ℕ) (ls : List ℕ) (rs rs′ : List Record) (ss ss′ : List ℕ) (first c : Turn) (r : Ran) → rs ≡ asleepRow → ss ≡ none sixteen
+    → going rs′ ss′ c ≡ turnsDef n ls (going rs ss first) → r ≡ ran rs′ c → r ≡ ranOf (turnsDef n ls (going asleepRow (none sixteen) first))
+ran-is n ls rs rs′ ss ss′ first c r er es g e =
+    e ∙ ap ranOf (g ∙ ap (λ (z : List Record). turnsDef n ls (going z ss first)) er ∙ ap (λ (z : List ℕ). turnsDef n ls (going asleepRow z first)) es)
