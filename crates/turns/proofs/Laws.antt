@@ -1,6 +1,6 @@
 -- What the calls of one turn come to in its definitions: each law takes what the callees promise, and gives what the function promises.
 -- Assumes nothing.
-use Prim.Native.Nat.{ℕ, zero, suc, _+_, _*_, _%_, _^_, _<_, _≤_}
+use Prim.Native.Nat.{ℕ, zero, suc, _+_, _*_, _/_, _%_, _^_, _<_, _≤_}
 use native.Mathlib.Decide.{decLt}
 use native.Mathlib.Omega.{arith}
 use mathlib.Core.Path.{_≡_, refl, sym, ap, _∙_}
@@ -31,7 +31,7 @@ use Rattle.mail.proofs.Laws.{picked-yes}
 use Rattle.turns.specs.declared.Turn.{Turn}
 use Rattle.turns.specs.declared.Pair.{Pair}
 use Rattle.turns.specs.declared.Ran.{Ran}
-use Rattle.turns.specs.Turn.{searched, nextPair, sleeps, quiet, heardAt, oneList, roundOf, tookRound, tookFirst, delivered, begun, tookPair, tookDef, Took, letter, postTo, lessBusy, moreBusy, ends, Put, nextTurn, putDef, Going, turnDef, turnsDef, asleepRow}
+use Rattle.turns.specs.Turn.{searched, nextPair, sleeps, quiet, heardAt, oneList, roundOf, tookRound, tookFirst, delivered, begun, tookPair, tookDef, Took, letter, postTo, lessBusy, moreBusy, ends, Put, nextTurn, putDef, Going, turnDef, turnsDef, firstTurn, asleepRow, ownDef}
 use Rattle.turns.specs.Parts.{took, sending, lessOf, moreOf, turnAfter, going, ran, ranOf}
 
 -- ---- choices
@@ -348,3 +348,13 @@ pub ran-is : (n : ℕ) (ls : List ℕ) (rs rs′ : List Record) (ss ss′ : List
     → going rs′ ss′ c ≡ turnsDef n ls (going rs ss first) → r ≡ ran rs′ c → r ≡ ranOf (turnsDef n ls (going asleepRow (none sixteen) first))
 ran-is n ls rs rs′ ss ss′ first c r er es g e =
     e ∙ ap ranOf (g ∙ ap (λ (z : List Record). turnsDef n ls (going z ss first)) er ∙ ap (λ (z : List ℕ). turnsDef n ls (going asleepRow z first)) es)
+
+-- the pairs of the first turn are those of the list
+pub first-within : (list links : List ℕ) (budget : ℕ) (first : Turn) → first ≡ firstTurn links (length list / 2) budget → first .pairs * 2 ≤ length list
+unfolding firstTurn
+first-within list links budget first e = omega (arith, ap (λ (c : Turn). c .pairs) e)
+
+pub own-is : (list links : List ℕ) (budget : ℕ) (first : Turn) (r : Ran) → first ≡ firstTurn links (length list / 2) budget
+    → r ≡ ranOf (turnsDef (first .left) list (going asleepRow (none sixteen) first)) → r ≡ ranOf (ownDef list links budget)
+unfolding ownDef firstTurn
+own-is list links budget first r e g = g ∙ ap (λ (c : Turn). ranOf (turnsDef (c .left) list (going asleepRow (none sixteen) c))) e
