@@ -138,7 +138,7 @@ module _ (w : ℕ) (t : List ℕ) (s : Table w t) (room : ℕ) (hr : w + 1 ≤ r
 
   -- ---- start
 
-  abbrev firstDesk : ℕ → Desk
+  abbrev pub firstDesk : ℕ → Desk
   firstDesk j = record { box = started w j (word t j); queues = λ a. []; sends = startSends j (word t j); taken = λ a. [] }
 
   start-done : (h : Hub) (j : ℕ) (rest : ℕ → List Msg) → j < w → (h .boxes j) .state ≡ 0 → SeatOf w t h j rest → DoneAt j rest h (firstDesk j)
@@ -242,6 +242,10 @@ module _ (w : ℕ) (t : List ℕ) (s : Table w t) (room : ℕ) (hr : w + 1 ≤ r
         (λ i u z. sym (up-way i (link-ne w t s i b u) ∙ ap (λ (x : Wire). x .way) (popped-row a b q h i b z)))
         (up .boxes b) (queuesOf up b) (start-up (popped a b q h) b (ways w t h b) hb popped-held) (up-held .seat)
 
+    hand-settled : handOver w room t a b m up ≡ settled w b (receive w (word t b) a m (up .boxes b) (queuesOf up b)) up
+    unfolding handOver
+    hand-settled = settle-settled w t s up b _ (ways w t up b) hb (up-held .others) hand-done room hr
+
     hand-sound : Sound w t (handOver w room t a b m up)
     unfolding handOver
     hand-sound = record {
@@ -250,7 +254,7 @@ module _ (w : ℕ) (t : List ℕ) (s : Table w t) (room : ℕ) (hr : w + 1 ≤ r
           (start-counted (popped a b q h) b (ways w t h b) hb popped-held (popped-counted a b q h w m (links-lt w t s a b v) hb e (S .counted)));
     }
 
-  deliver-none : (h : Hub) (a b : ℕ) → (h .wires a b) .way ≡ [] → deliver w room t a b h ≡ h
+  pub deliver-none : (h : Hub) (a b : ℕ) → (h .wires a b) .way ≡ [] → deliver w room t a b h ≡ h
   unfolding deliver
   deliver-none h a b e = rw (e, deliver)
 
@@ -264,3 +268,26 @@ module _ (w : ℕ) (t : List ℕ) (s : Table w t) (room : ℕ) (hr : w + 1 ≤ r
       go : (l : List Msg) → (h .wires a b) .way ≡ l → Sound w t (deliver w room t a b h)
       go [] e = rw (deliver-none h a b e) S
       go (m ∷ q) e = rw (deliver-one h a b m q e) (hand-sound h a b m q (full-link w t h a b m q e (S .good)) e S)
+
+  -- ---- a delivery as one settled box, or two: a sleeping receiver starts first
+
+  module _ (h : Hub) (a b : ℕ) (m : Msg) (q : List Msg) (e : (h .wires a b) .way ≡ m ∷ q) (S : Sound w t h) where
+    link : mem b (word t a) ≡ true
+    link = full-link w t h a b m q e (S .good)
+
+    abbrev gone : Hub
+    gone = popped a b q h
+
+    abbrev handed : Hub → Desk
+    handed g = receive w (word t b) a m (g .boxes b) (queuesOf g b)
+
+    as-settled : (g : Hub) → start w room t b gone ≡ g → deliver w room t a b h ≡ settled w b (handed g) g
+    as-settled g f = deliver-one h a b m q e ∙ hand-settled h a b m q link e S ∙ ap (λ (x : Hub). settled w b (handed x) x) f
+
+    pub delivered : (((h .boxes b) .state ≡ 0) × (deliver w room t a b h ≡ settled w b (handed (settled w b (firstDesk b) gone)) (settled w b (firstDesk b) gone)))
+        ⊎ (((h .boxes b) .state ≢ 0) × (deliver w room t a b h ≡ settled w b (handed gone) gone))
+    delivered =
+        ⊎-elim
+        (λ x. inl (ap (λ (f : ℕ → Box). (f b) .state) (sym (popped-boxes a b q h)) ∙ x .0, as-settled _ (x .1)))
+        (λ x. inr ((λ z. x .0 (ap (λ (f : ℕ → Box). (f b) .state) (popped-boxes a b q h) ∙ z)), as-settled _ (x .1)))
+        (start-cases gone b (ways w t h b) (hb h a b m q link e S) (popped-held h a b m q link e S))

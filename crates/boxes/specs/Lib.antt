@@ -1,0 +1,5 @@
+pub mod Record
+pub mod Step
+pub mod Tables
+pub mod Taking
+pub mod Laws

@@ -1,0 +1,119 @@
+-- A round's first half as the code does it: what is known and what was gained are kept beside the tables, and Nodes(HOP+1) is written once, after the
+-- last link. Proved: what that comes to is the rules' takeSets. Assumes nothing.
+use Prim.Native.Nat.{ℕ, zero, suc, _+_, _<_, _≤_}
+use native.Mathlib.Omega.{arith}
+use mathlib.Core.Path.{_≡_, refl, sym, ap, _∙_}
+use mathlib.Core.Bool.{Bool, true, false, cond}
+use mathlib.Core.List.{List}
+use lib.Bits.{bitOr}
+use lib.ListN.{length, set, length-set}
+use lib.Seq.{set-out}
+use Rattle.rules.specs.Sets.{mem, without, word, union, joinAt, forEach}
+use Rattle.rules.specs.Box.{Box, takeSet, takeSets}
+use Rattle.boxes.specs.declared.Record.{Record}
+use Rattle.boxes.specs.Record.{boxOf, recordOf}
+use Rattle.boxes.specs.Tables.{join-none, without-none, join-join, union-join}
+
+-- an empty set taken changes nothing
+pub take-none : (w j : ℕ) (b : Box) → takeSet w j 0 b ≡ b
+unfolding takeSet
+take-none w j b = rw (without-none, join-none, join-none, join-none)
+
+-- the set s taken where the test holds, and the empty set where it does not
+pub take-if : (w j s : ℕ) (p : Bool) (b : Box) → takeSet w j (cond p s 0) b ≡ cond p (takeSet w j s b) b
+take-if w j s true b = refl
+take-if w j s false b = take-none w j b
+
+-- the box that q is once Nodes(HOP+1) has what was gained
+unfoldable pub withGained : ℕ → Record → Box
+withGained gained q = record {
+  state = q .state;
+  hop = q .hop;
+  nodes = joinAt (q .nodes) (suc (q .hop)) gained;
+  inSpt = q .«in_spt»;
+  notSpt = q .«not_spt»;
+  neighbors = q .neighbors;
+}
+
+-- the set s is taken from link j, of which new is new
+unfoldable pub takenFrom : ℕ → ℕ → ℕ → Record → Record
+takenFrom j s new q = record {
+  state = q .state;
+  hop = q .hop;
+  nodes = q .nodes;
+  «in_spt» = joinAt (q .«in_spt») j new;
+  «not_spt» = joinAt (q .«not_spt») j s;
+  neighbors = q .neighbors;
+}
+
+take-gained : (j s gained : ℕ) (q : Record)
+    → withGained (bitOr gained (without s (union 16 (q .«in_spt»)))) (takenFrom j s (without s (union 16 (q .«in_spt»))) q) ≡ takeSet 16 j s (withGained gained q)
+unfolding takeSet withGained takenFrom
+take-gained j s gained q = rw (join-join (q .nodes) (suc (q .hop)) gained (without s (union 16 (q .«in_spt»))))
+
+known-next : (j s new known : ℕ) (q : Record) → j < 16 → j < length (q .«in_spt») → known ≡ union 16 (q .«in_spt»)
+    → bitOr known new ≡ union 16 (takenFrom j s new q .«in_spt»)
+unfolding takenFrom
+known-next j s new known q l m e = rw (union-join 16 (q .«in_spt») j new l m, e)
+
+in-next : (j s new : ℕ) (q : Record) → length (takenFrom j s new q .«in_spt») ≡ length (q .«in_spt»)
+unfolding takenFrom joinAt
+in-next j s new q = simp length-set
+
+nodes-next : (j s new : ℕ) (q : Record) → takenFrom j s new q .nodes ≡ q .nodes
+unfolding takenFrom
+nodes-next j s new q = refl
+
+hop-next : (j s new : ℕ) (q : Record) → takenFrom j s new q .hop ≡ q .hop
+unfolding takenFrom
+hop-next j s new q = refl
+
+-- before link j
+pub record Mid (links : ℕ) (heads : List ℕ) (r : Record) (j known gained : ℕ) (q : Record) : Type 0 where
+  pub hop-is : q .hop ≡ r .hop
+  pub known-is : known ≡ union 16 (q .«in_spt»)
+  pub in-size : length (q .«in_spt») ≡ 16
+  pub nodes-size : length (q .nodes) ≡ 16
+  pub box-is : withGained gained q ≡ forEach links (λ k. takeSet 16 k (word heads k)) j (boxOf r)
+
+module _ (links : ℕ) (heads : List ℕ) (r : Record) where
+  pub mid-first : (known : ℕ) → known ≡ union 16 (r .«in_spt») → length (r .«in_spt») ≡ 16 → length (r .nodes) ≡ 16 → Mid links heads r 0 known 0 r
+  unfolding withGained forEach boxOf
+  mid-first known e l m = record { hop-is = refl; known-is = e; in-size = l; nodes-size = m; box-is = rw join-none }
+
+  pub mid-next : (j known gained : ℕ) (q : Record) → Mid links heads r j known gained q → j < 16 → (s new : ℕ) → s ≡ cond (mem j links) (word heads j) 0 → new ≡ without s known
+      → Mid links heads r (suc j) (bitOr known new) (bitOr gained new) (takenFrom j s new q)
+  unfolding forEach
+  mid-next j known gained q m l s new es en =
+      let ek = m .known-is in
+      let li : j < length (q .«in_spt») = rw (m .in-size) l in
+      let e : new ≡ without s (union 16 (q .«in_spt»)) = rw ek at en in
+      record {
+        hop-is = hop-next j s new q ∙ m .hop-is;
+        known-is = known-next j s new known q l li ek;
+        in-size = in-next j s new q ∙ m .in-size;
+        nodes-size = ap length (nodes-next j s new q) ∙ m .nodes-size;
+        box-is = rw e (take-gained j s gained q ∙ rw (m .box-is, es) (take-if 16 j (word heads j) (mem j links) (forEach links (λ k. takeSet 16 k (word heads k)) j (boxOf r))));
+      }
+
+  -- after the last link
+  pub mid-last : (known gained : ℕ) (q : Record) → Mid links heads r 16 known gained q → recordOf (withGained gained q) ≡ recordOf (takeSets 16 links (word heads) (boxOf r))
+  unfolding takeSets
+  mid-last known gained q m = ap recordOf (m .box-is)
+
+-- nothing is stored past the end of Nodes
+pub gained-past : (gained : ℕ) (q : Record) → length (q .nodes) ≡ 16 → 16 ≤ suc (q .hop) → q ≡ recordOf (withGained gained q)
+unfolding recordOf withGained joinAt
+gained-past gained q e l = let h : length (q .nodes) ≤ suc (q .hop) = omega arith in rw (set-out (q .nodes) (suc (q .hop)) (bitOr (word (q .nodes) (suc (q .hop))) gained) h)
+
+pub gained-in : (gained next : ℕ) (q : Record) → next ≡ suc (q .hop)
+    → (record {
+      state = q .state;
+      hop = q .hop;
+      nodes = joinAt (q .nodes) next gained;
+      «in_spt» = q .«in_spt»;
+      «not_spt» = q .«not_spt»;
+      neighbors = q .neighbors;
+    }) ≡ recordOf (withGained gained q)
+unfolding recordOf withGained
+gained-in gained next q e = rw e

@@ -1,0 +1,307 @@
+// One box of the hub: its record, its start, a round, the lists it saves. Document 01, "The steps of a box". A box sees its own number and link set,
+// its record, and what has come for it; the wires are another crate's.
+ghost use mathlib.Core.Path.{_≡_};
+ghost use Prim.Native.Nat.{ℕ, suc, _+_, _%_, _^_, _<_};
+ghost use mathlib.Core.Bool.{cond};
+ghost use lib.Dec.{eqb};
+ghost use lib.ListN.{length, set, getD};
+ghost use Rattle.rules.specs.Sets.{mem, without, word, union};
+ghost use Rattle.rules.specs.Box.{asleep, started, takeSets, before};
+ghost use Rattle.boxes.specs.Record.{boxOf, recordOf, blank};
+ghost use Rattle.boxes.specs.Step.{hopped, withoutEach, saveAll, settled, rounded, worked, stepDef};
+
+// state: 0 asleep, 1 awake, 2 stopped. "A record carries its arrays with it, tables and counts together."
+pub struct Record {
+    pub state: u16,
+    pub hop: u16,
+    pub nodes: [u16; 16],
+    pub in_spt: [u16; 16],
+    pub not_spt: [u16; 16],
+    pub neighbors: [u16; 16],
+}
+
+// What has come for a box, gathered from the wires before its record is touched.
+pub struct Arrival {
+    // the receiving box and its link set, and the box that the message came from
+    pub own: usize,
+    pub from: usize,
+    pub links: u16,
+    // a message was taken off its wire
+    pub moved: bool,
+    // it starts first
+    pub wakes: bool,
+    // every link has a NOTSPT at its head: a round is done
+    pub round: bool,
+    // the sets at the heads, by link
+    pub heads: [u16; 16],
+    // the origins whose lists are saved, after the round where there is one, and those lists, by origin
+    pub listed: u16,
+    pub lists: [u16; 16],
+    // the links whose queue holds a message after that
+    pub heard: u16,
+}
+
+// What goes out, with what the turn has to know of the arrival.
+pub struct Departure {
+    pub own: usize,
+    pub from: usize,
+    pub moved: bool,
+    pub heard: u16,
+    // NOTSPT {own} goes out on every link first
+    pub wakes: bool,
+    // then, for each link, the lists and the set of the round
+    pub round: bool,
+    // the box has stopped: its queues are emptied
+    pub stops: bool,
+    // the NOTSPT for each link
+    pub sets: [u16; 16],
+    // for each link, the origins whose lists go out on it, as a set
+    pub origins: [u16; 16],
+    // the lists, by origin, as known before this delivery's lists are saved
+    pub neighbors: [u16; 16],
+}
+
+pub struct Stepped {
+    pub record: Record,
+    pub out: Departure,
+}
+
+// ---- sets of boxes, and tables of 16 of them
+
+// a where box k is in the set s, else b.
+fn if_in(s: u16, k: usize, a: u16, b: u16) -> u16
+    requires { ⌜ k < 16 ⌝ }
+    ensures { λ r. ⌜ r ≡ cond (mem k s) a b ⌝ }
+{
+    if sets::is_in(s, k) { a } else { b }
+}
+
+// What a table has at k, 0 past its end.
+fn entry(t: [u16; 16], k: usize) -> u16
+    ensures { λ r. ⌜ r ≡ word t k ⌝ }
+{
+    if k < 16 {
+        return t[k];
+    }
+    0
+}
+
+// The union of a table's sets.
+fn union_of(t: [u16; 16]) -> u16
+    ensures { λ r. ⌜ r ≡ union 16 t ⌝ }
+{
+    let mut u: u16 = 0;
+    for k in 0..16 {
+        u = u | t[k];
+    }
+    u
+}
+
+// By link, the set s without the table's set for that link.
+fn without_each(s: u16, t: [u16; 16]) -> [u16; 16]
+    ensures { λ q. ⌜ q ≡ withoutEach s t ⌝ }
+{
+    let mut out: [u16; 16] = [0; 16];
+    for j in 0..16 {
+        out[j] = sets::minus(s, t[j]);
+    }
+    out
+}
+
+// The listed entries of a table become those of lists.
+pub fn save_all(t: [u16; 16], listed: u16, lists: [u16; 16]) -> [u16; 16]
+    ensures { λ q. ⌜ q ≡ saveAll t listed lists ⌝ }
+{
+    if listed == 0 {
+        return t;
+    }
+    let mut out = t;
+    for k in 0..16 {
+        out[k] = if_in(listed, k, lists[k], out[k]);
+    }
+    out
+}
+
+// Nodes(HOP-1), nothing in round 0.
+fn before_of(hop: u16, nodes: [u16; 16]) -> u16
+    ensures { λ r. ⌜ r ≡ before hop nodes ⌝ }
+{
+    if hop == 0 {
+        return 0;
+    }
+    entry(nodes, (hop as usize) - 1)
+}
+
+// ---- a box
+
+// "A sleeping box's block is all zero."
+pub fn asleep() -> Record
+    ensures { λ q. ⌜ q ≡ recordOf (asleep 16) ⌝ }
+{
+    let none: [u16; 16] = [0; 16];
+    Record {
+        state: 0,
+        hop: 0,
+        nodes: none,
+        in_spt: none,
+        not_spt: none,
+        neighbors: none,
+    }
+}
+
+// Box i has started. "Nodes(0) is the box itself, all else is empty, its own link list is known .. With no link it stops, HOP 0."
+pub fn started(i: usize, links: u16) -> Record
+    ensures { λ q. ⌜ q ≡ recordOf (started 16 (i % 16) links) ⌝ }
+{
+    let own = i % 16;
+    let none: [u16; 16] = [0; 16];
+    let mut nodes = none;
+    nodes[0] = sets::only(own);
+    let mut lists = none;
+    lists[own] = links;
+    Record {
+        state: state_with(links),
+        hop: 0,
+        nodes: nodes,
+        in_spt: none,
+        not_spt: none,
+        neighbors: lists,
+    }
+}
+
+// The state of a box that has the set s to go on with: its links at the start, its last Nodes set in a round. With none it stops.
+fn state_with(s: u16) -> u16
+    ensures { λ r. ⌜ r ≡ cond (eqb s 0) 2 1 ⌝ }
+{
+    if s == 0 { 2 } else { 1 }
+}
+
+// A round's first half. "Take one from each link, ascending by neighbour. New identities are those in the set that are in no In_SPT yet; they join In_SPT
+// of this link and Nodes(HOP+1). The whole set joins Not_SPT of this link." What is known and what was gained are kept beside the tables,
+// so that a link costs no walk through In_SPT; an empty set taken from a box that is no link changes nothing.
+pub fn take_sets(r: Record, links: u16, heads: [u16; 16]) -> Record
+    ensures { λ q. ⌜ q ≡ recordOf (takeSets 16 links (word heads) (boxOf r)) ⌝ }
+{
+    let spt = r.in_spt;
+    let mut known = union_of(spt);
+    let mut gained: u16 = 0;
+    let next = (r.hop as usize) + 1;
+    let mut q = r;
+    for j in 0..16 {
+        let s = if_in(links, j, heads[j], 0);
+        let new = sets::minus(s, known);
+        known = known | new;
+        gained = gained | new;
+        q.in_spt[j] = q.in_spt[j] | new;
+        q.not_spt[j] = q.not_spt[j] | s;
+    }
+    if next < 16 {
+        q.nodes[next] = q.nodes[next] | gained;
+    }
+    q
+}
+
+// "Add 1 to HOP. Stop if Nodes(HOP-1) is now empty."
+pub fn next_hop(r: Record) -> Record
+    ensures { λ q. ⌜ q ≡ recordOf (hopped (boxOf r)) ⌝ }
+{
+    let nodes = r.nodes;
+    let hop = r.hop;
+    let state = state_with(entry(nodes, hop as usize));
+    let mut q = r;
+    q.state = state;
+    if hop < 65535 {
+        q.hop = hop + 1;
+    }
+    q
+}
+
+// After the start and the round: the lists are saved, unless the box has stopped.
+fn settle(b: Record, a: Arrival, sets: [u16; 16], origins: [u16; 16]) -> Stepped
+    ensures { λ q. ⌜ q ≡ settled a sets origins (boxOf b) ⌝ }
+{
+    let known = b.neighbors;
+    let stops = b.state == 2;
+    let out = Departure {
+        own: a.own,
+        from: a.from,
+        moved: a.moved,
+        heard: a.heard,
+        wakes: a.wakes,
+        round: a.round,
+        stops: stops,
+        sets: sets,
+        origins: origins,
+        neighbors: known,
+    };
+    if stops {
+        return Stepped {
+            record: b,
+            out: out,
+        };
+    }
+    let listed = a.listed;
+    let lists = a.lists;
+    let now_known = save_all(known, listed, lists);
+    let mut q = b;
+    q.neighbors = now_known;
+    Stepped {
+        record: q,
+        out: out,
+    }
+}
+
+// The round's second half, of a box that has taken its sets: what goes out to each link, and the next HOP.
+fn round_out(b: Record, a: Arrival) -> Stepped
+    ensures { λ q. ⌜ q ≡ rounded a (boxOf b) ⌝ }
+{
+    let nodes = b.nodes;
+    let spt = b.in_spt;
+    let not = b.not_spt;
+    let hop = b.hop;
+    let sets = without_each(entry(nodes, (hop as usize) + 1), spt);
+    let origins = without_each(before_of(hop, nodes), not);
+    settle(next_hop(b), a, sets, origins)
+}
+
+// A box that is awake: a round where every link has a NOTSPT at its head, then the lists.
+fn work(b: Record, a: Arrival) -> Stepped
+    ensures { λ q. ⌜ q ≡ worked a (boxOf b) ⌝ }
+{
+    if a.round {
+        let links = a.links;
+        let heads = a.heads;
+        return round_out(take_sets(b, links, heads), a);
+    }
+    let none: [u16; 16] = [0; 16];
+    settle(b, a, none, none)
+}
+
+// All that one delivery, or one start, makes of a box.
+pub fn step(r: Record, a: Arrival) -> Stepped
+    ensures { λ q. ⌜ q ≡ stepDef r a ⌝ }
+{
+    if a.wakes {
+        let own = a.own;
+        let links = a.links;
+        return work(started(own, links), a);
+    }
+    work(r, a)
+}
+
+// "a delivery rewrites the receiver's record where it sits": the step by value, its record stored back, what goes out handed on.
+pub fn deliver(r: &mut Record, a: Arrival) -> Departure
+    ensures { λ q. ⌜ (now (r .exit) ≡ stepDef (now (r .entry)) a .«record») × (q ≡ stepDef (now (r .entry)) a .out) ⌝ }
+{
+    let s = step(*r, a);
+    *r = s.record;
+    s.out
+}
+
+// "The boxes' records stand side by side in one lent row": the receiver's record is lent on, and all others stay as they are.
+pub fn deliver_at(row: &mut [Record], b: usize, a: Arrival) -> Departure
+    requires { ⌜ b < length (now row) ⌝ }
+    ensures { λ q. ⌜ (now (row .exit) ≡ set (now (row .entry)) b (stepDef (getD (now (row .entry)) b blank) a .«record»)) × (q ≡ stepDef (getD (now (row .entry)) b blank) a .out) ⌝ }
+{
+    deliver(&mut row[b], a)
+}

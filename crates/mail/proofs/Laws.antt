@@ -1,0 +1,153 @@
+-- What the calls on the store come to in a turn's definitions: each law takes what the callees promise, and gives what the function promises.
+-- Assumes nothing.
+use Prim.Native.Nat.{ℕ, zero, suc, _+_, _-_, _%_, _^_, _<_}
+use native.Mathlib.Numerals.{add-one}
+use native.Mathlib.Omega.{arith}
+use mathlib.Core.Path.{_≡_, refl, sym, ap, _∙_}
+use mathlib.Core.Bool.{Bool, true, false, cond}
+use mathlib.Core.List.{List, [], _∷_}
+use lib.Bits.{bitOr}
+use lib.Dec.{ltb}
+use lib.ListN.{length, set}
+use borrow.Author.Tests.{lt-ltb, ltb-true}
+use Rattle.rules.specs.Sets.{mem, word, forEach}
+use Rattle.rules.specs.Box.{notspt, neighbors}
+use Rattle.sets.specs.Mem.{mem-empty, and-both}
+use Rattle.wires.specs.Words.{wordOf, isList, originOf, setOf}
+use Rattle.wires.specs.Wires.{sixteen, waiting, queued, hasRoom, pushed, Pushed, front, taken, takenWord, Taken}
+use Rattle.wires.proofs.Ring.{ring-some}
+use Rattle.wires.proofs.Laws.{queue-length, take-law, sixteen-proper}
+use Rattle.mail.specs.declared.Gathered.{Gathered}
+use Rattle.mail.specs.declared.Letter.{Letter}
+use Rattle.mail.specs.Post.{Posted, postWord, postLists, postIf}
+use Rattle.mail.specs.Letter.{postLink}
+use Rattle.mail.specs.Gather.{Got, wireOf, listAt, takeList, takeLists, takeHead, hear, gatherLink}
+use Rattle.mail.specs.Gathered.{got}
+
+-- ---- a choice, and a loop over the members of a set
+
+pub picked-yes : {A : Type 0} (b c : Bool) (x y z : A) → b ≡ c → b ≡ true → z ≡ x → z ≡ cond c x y
+picked-yes b c x y z e t h = rw (← e, t) h
+
+pub picked-no : {A : Type 0} (b c : Bool) (x y : A) → b ≡ c → b ≡ false → y ≡ cond c x y
+picked-no b c x y e f = rw (← e, f)
+
+-- one turn more
+pub each-next : {A : Type 0} (s : ℕ) (f : ℕ → A → A) (k : ℕ) (a x r : A) → x ≡ forEach s f k a → r ≡ cond (mem k s) (f k x) x → r ≡ forEach s f (k + 1) a
+unfolding forEach
+each-next {A} s f k a x r e g = rw add-one (g ∙ ap (λ (z : A). cond (mem k s) (f k z) z) e)
+
+-- an empty set has no member to go through
+pub each-none : {A : Type 0} (f : ℕ → A → A) (n : ℕ) (a : A) → a ≡ forEach 0 f n a
+unfolding forEach
+each-none f zero a = refl
+each-none f (suc n) a = rw mem-empty (each-none f n a)
+
+-- ---- what goes out
+
+pub post-yes : (s s′ : List ℕ) (i x n m : ℕ) (f ok : Bool) → Pushed sixteen s i x s′ ok → ok ≡ true → m ≡ (n + 1) % 4294967296
+    → _≡_ {A = Posted} (record { store = s′; sent = m; full = f }) (postWord i x (record { store = s; sent = n; full = f }))
+unfolding postWord
+post-yes s s′ i x n m f ok p e g = rw (sym (p .answer) ∙ e, p .words, g)
+
+pub post-no : (s s′ : List ℕ) (i x n : ℕ) (f ok : Bool) → Pushed sixteen s i x s′ ok → ok ≡ false
+    → _≡_ {A = Posted} (record { store = s′; sent = n; full = true }) (postWord i x (record { store = s; sent = n; full = f }))
+unfolding postWord
+post-no s s′ i x n f ok p e = rw (sym (p .answer) ∙ e, p .words)
+
+pub said-yes : (c : Bool) (i s x : ℕ) (p q : Posted) → c ≡ true → x ≡ wordOf (notspt s) → q ≡ postWord i x p → q ≡ postIf c i s p
+unfolding postIf
+said-yes c i s x p q e w g = rw (e, ← w) g
+
+pub said-no : (c : Bool) (i s : ℕ) (p : Posted) → c ≡ false → p ≡ postIf c i s p
+unfolding postIf
+said-no c i s p e = rw e
+
+-- the list of origin k, where it is one
+pub list-yes : (b : Bool) (k s i x : ℕ) (known : List ℕ) (p q : Posted) → b ≡ mem k s → b ≡ true → x ≡ wordOf (neighbors k (word known k)) → q ≡ postWord i x p
+    → q ≡ cond (mem k s) (postWord i (wordOf (neighbors k (word known k))) p) p
+list-yes b k s i x known p q e t w g = picked-yes b (mem k s) _ p q e t (g ∙ ap (λ (z : ℕ). postWord i z p) w)
+
+-- ---- what has come
+
+pub no-list : (s : List ℕ) (i n : ℕ) → n ≡ queued sixteen s i → n ≡ 0 → false ≡ listAt s i
+unfolding listAt
+no-list s i n e z = let h : queued sixteen s i ≡ 0 = sym e ∙ z in rw h
+
+pub a-list : (s : List ℕ) (i n x : ℕ) (r : Bool) → n ≡ queued sixteen s i → (n ≡ 0 → ⊥) → x ≡ front sixteen s i → r ≡ isList x → r ≡ listAt s i
+unfolding listAt
+a-list s i n x r e z w g =
+    let h : ltb 0 (queued sixteen s i) ≡ true = lt-ltb 0 (queued sixteen s i) (omega arith) in
+    rw (h, ← w) g
+
+pub took-list : (s s′ : List ℕ) (i x k o y : ℕ) (g : Gathered) → Taken sixteen s i s′ x → k ≡ originOf x → o ≡ 2 ^ k → y ≡ setOf x
+    → got s′ (record { heads = g .heads; listed = bitOr (g .listed) o; lists = set (g .lists) k y; heard = g .heard }) ≡ takeList i (got s g)
+unfolding takeList
+took-list s s′ i x k o y g p ek eo ey = rw (p .words, eo, ey, ek, p .answer)
+
+-- a list taken leaves one less in the queue
+pub one-less : (s : List ℕ) (i : ℕ) → length s ≡ 9216 → i < 256 → listAt s i ≡ true → suc (queued sixteen (taken sixteen s i) i) ≡ queued sixteen s i
+unfolding waiting listAt
+one-less s i size here e =
+    let some : 0 < queued sixteen s i = ltb-true 0 (queued sixteen s i) (and-both _ _ e .0) in
+    let all = ring-some sixteen s i _ (queued sixteen s i) (λ z. omega arith) in
+    let off = take-law sixteen sixteen-proper s i size here .off _ _ all in
+    let rest = sym (queue-length sixteen (taken sixteen s i) i) ∙ ap (λ w. length (w .queue)) off in
+    let whole = sym (queue-length sixteen s i) ∙ ap length all in
+    sym (whole ∙ ap suc (sym rest))
+
+-- a turn of the loop that takes them
+pub lists-on : (i : ℕ) (g h : Got) → length (g .store) ≡ 9216 → i < 256 → listAt (g .store) i ≡ true → h ≡ takeList i g
+    → takeLists (queued sixteen (h .store) i) i h ≡ takeLists (queued sixteen (g .store) i) i g
+unfolding takeLists takeList
+lists-on i g h size here e t =
+    ap (λ (z : Got). takeLists (queued sixteen (z .store) i) i z) t
+    ∙ sym (ap (λ (n : ℕ). takeLists n i g) (sym (one-less (g .store) i size here e)) ∙ rw e)
+
+pub lists-less : (i : ℕ) (g h : Got) → length (g .store) ≡ 9216 → i < 256 → listAt (g .store) i ≡ true → h ≡ takeList i g
+    → queued sixteen (h .store) i < queued sixteen (g .store) i
+unfolding takeList
+lists-less i g h size here e t =
+    let a = one-less (g .store) i size here e in
+    let b = ap (λ (z : Got). queued sixteen (z .store) i) t in
+    omega (arith, a, b)
+
+pub lists-end : (n i : ℕ) (g : Got) → listAt (g .store) i ≡ false → takeLists n i g ≡ g
+unfolding takeLists
+lists-end zero i g e = refl
+lists-end (suc n) i g e = rw e
+
+pub took-head : (s s′ : List ℕ) (i j x y : ℕ) (g : Gathered) → Taken sixteen s i s′ x → y ≡ setOf x
+    → got s′ (record { heads = set (g .heads) j y; listed = g .listed; lists = g .lists; heard = g .heard }) ≡ takeHead i j (got s g)
+unfolding takeHead
+took-head s s′ i j x y g p ey = rw (p .words, ey, p .answer)
+
+pub not-heard : (s : List ℕ) (i j n : ℕ) (g : Gathered) → n ≡ queued sixteen s i → n ≡ 0 → got s g ≡ hear i j (got s g)
+unfolding hear
+not-heard s i j n g e z = let h : queued sixteen s i ≡ 0 = sym e ∙ z in rw h
+
+pub is-heard : (s : List ℕ) (i j n o : ℕ) (g : Gathered) → n ≡ queued sixteen s i → (n ≡ 0 → ⊥) → o ≡ 2 ^ j
+    → got s (record { heads = g .heads; listed = g .listed; lists = g .lists; heard = bitOr (g .heard) o }) ≡ hear i j (got s g)
+unfolding hear
+is-heard s i j n o g e z w =
+    let h : ltb 0 (queued sixteen s i) ≡ true = lt-ltb 0 (queued sixteen s i) (omega arith) in
+    rw (h, w)
+
+pub link-yes : (t : Bool) (b j links : ℕ) (g h l r : Got) → t ≡ mem j links → t ≡ true → h ≡ takeHead (wireOf j b) j g
+    → l ≡ takeLists (queued sixteen (h .store) (wireOf j b)) (wireOf j b) h → r ≡ hear (wireOf j b) j l → r ≡ cond (mem j links) (gatherLink b j g) g
+unfolding gatherLink
+link-yes t b j links g h l r e y eh el er =
+    picked-yes t (mem j links) _ g r e y
+    (er ∙ ap (hear (wireOf j b) j) (el ∙ ap (λ (z : Got). takeLists (queued sixteen (z .store) (wireOf j b)) (wireOf j b) z) eh))
+
+-- ---- all that goes to one link
+
+pub letter-round : (i : ℕ) (l : Letter) (known : List ℕ) (p q r t : Posted) → q ≡ postIf (l .wakes) i (l .own) p → l .round ≡ true
+    → r ≡ postLists i (l .origins) known 16 q → t ≡ postIf true i (l .«set») r → t ≡ postLink i l known p
+unfolding postLink
+letter-round i l known p q r t eq e er et =
+    rw e (et ∙ ap (postIf true i (l .«set»)) (er ∙ ap (postLists i (l .origins) known 16) eq))
+
+pub letter-none : (i : ℕ) (l : Letter) (known : List ℕ) (p q : Posted) → q ≡ postIf (l .wakes) i (l .own) p → l .round ≡ false → q ≡ postLink i l known p
+unfolding postLink
+letter-none i l known p q eq e = rw e eq

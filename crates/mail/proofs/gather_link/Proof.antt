@@ -1,0 +1,46 @@
+-- `mail::gather_link` meets its contract. Assumes nothing.
+use borrow.Author.Needs.{needs}
+use Rattle.mail.proofs.Laws.{link-yes, picked-no}
+use Rattle.mail.proofs.gather_link.Statement.{statement}
+use Rattle.mail.proofs.gather_link.Tie as tie
+
+is-in-requires : tie.Need-is-in-requires
+is-in-requires c κs = search needs
+
+mul-i : tie.Need-mul-i
+mul-i c = search needs
+
+add-i : tie.Need-add-i
+add-i c = search needs
+
+take-head-requires : tie.Need-take-head-requires
+take-head-requires c κs = search needs
+
+take-lists-requires : tie.Need-take-lists-requires
+take-lists-requires c κs = search needs
+
+hear-requires : tie.Need-hear-requires
+hear-requires c κs = search needs
+
+same-length : tie.Need-same-length
+same-length c = search needs
+
+returns : tie.Need-returns
+returns c = link-yes _ (c .before .before .before .before .before .before .before .before .before .before .before .before .before .args .b) (c .before .before .before .before .before .before .before .before .before .before .before .before .before .args .j) _ _ _ _ _ (c .before .before .before .before .before .before .before .before .before .before .before .is-in .ensures) (c .before .before .before .before .before .before .before .before .before .before .if1 .taken) (c .before .before .before .before .before .before .before .before .take-head .ensures) (c .before .before .before .before .take-lists .ensures) (c .hear .ensures)
+
+returns-2 : tie.Need-returns-2
+returns-2 c = picked-no _ _ _ _ (c .before .is-in .ensures) (c .if1 .left)
+
+pub gather-link-spec : {M : Type 1} → statement M
+gather-link-spec =
+    tie.close
+    (tie.spec
+    is-in-requires
+    mul-i
+    add-i
+    take-head-requires
+    take-lists-requires
+    hear-requires
+    same-length
+    returns
+    returns-2)

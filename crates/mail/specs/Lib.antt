@@ -1,0 +1,4 @@
+pub mod Post
+pub mod Letter
+pub mod Gather
+pub mod Gathered

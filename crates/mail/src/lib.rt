@@ -1,0 +1,229 @@
+// One turn's messages, between a box and the store of waiting messages: what goes out, and what has come. Document 01, "The steps of a box".
+ghost use mathlib.Core.Path.{_≡_};
+ghost use Prim.Native.Nat.{ℕ, _+_, _*_, _^_, _<_};
+ghost use mathlib.Core.Bool.{cond};
+ghost use lib.ListN.{length};
+ghost use Rattle.rules.specs.Sets.{mem, word};
+ghost use Rattle.rules.specs.Box.{neighbors};
+ghost use Rattle.wires.specs.Words.{wordOf};
+ghost use Rattle.wires.specs.Wires.{sixteen, queued, cleared};
+ghost use Rattle.mail.specs.Post.{postWord, postLists, postIf};
+ghost use Rattle.mail.specs.Letter.{posted, postLink};
+ghost use Rattle.mail.specs.Gather.{gotNothing, wireOf, listAt, takeList, takeLists, takeHead, hear, gatherLink, gatherTo, clearTo};
+ghost use Rattle.mail.specs.Gathered.{got};
+
+// How many messages were sent, and whether one found no room on its wire (refusal 13).
+pub struct Counts {
+    pub sent: u32,
+    pub full: bool,
+}
+
+// ---- what goes out
+
+// One message joins wire i.
+pub fn post(store: &mut [u32], i: usize, word: u32, c: Counts) -> Counts
+    requires { ⌜ (length (now store) ≡ 9216) × (i < 256) ⌝ }
+    ensures { λ r. ⌜ posted (now (store .exit)) r ≡ postWord i word (posted (now (store .entry)) c) ⌝ }
+{
+    if wires::push(store, i, word) {
+        return Counts {
+            sent: std::num::wrapping_add_u32(c.sent, 1),
+            full: c.full,
+        };
+    }
+    Counts {
+        sent: c.sent,
+        full: true,
+    }
+}
+
+// The list of origin k joins wire i, where k is one of the origins.
+fn post_list(
+    store: &mut [u32],
+    i: usize,
+    k: usize,
+    origins: u16,
+    known: [u16; 16],
+    c: Counts,
+) -> Counts
+    requires { ⌜ (length (now store) ≡ 9216) × ((i < 256) × (k < 16)) ⌝ }
+    ensures { λ r. ⌜ posted (now (store .exit)) r ≡ cond (mem k origins) (postWord i (wordOf (neighbors k (word known k))) (posted (now (store .entry)) c)) (posted (now (store .entry)) c) ⌝ }
+{
+    if sets::is_in(origins, k) {
+        return post(store, i, wires::list_word(k, known[k]), c);
+    }
+    c
+}
+
+// "send Neighbors(K), ascending, for K in .."
+fn post_lists(store: &mut [u32], i: usize, origins: u16, known: [u16; 16], c: Counts) -> Counts
+    requires { ⌜ (length (now store) ≡ 9216) × (i < 256) ⌝ }
+    ensures { λ r. ⌜ posted (now (store .exit)) r ≡ postLists i origins known 16 (posted (now (store .entry)) c) ⌝ }
+{
+    if origins == 0 {
+        return c;
+    }
+    let mut q = c;
+    for k in 0..16 {
+        q = post_list(store, i, k, origins, known, q);
+    }
+    q
+}
+
+// NOTSPT with the set s joins wire i, where it is said.
+fn post_if(said: bool, store: &mut [u32], i: usize, s: u16, c: Counts) -> Counts
+    requires { ⌜ (length (now store) ≡ 9216) × (i < 256) ⌝ }
+    ensures { λ r. ⌜ posted (now (store .exit)) r ≡ postIf said i s (posted (now (store .entry)) c) ⌝ }
+{
+    if said {
+        return post(store, i, wires::set_word(s), c);
+    }
+    c
+}
+
+// All that goes to one link.
+pub struct Letter {
+    // NOTSPT {own} goes first
+    pub wakes: bool,
+    pub own: u16,
+    // then the lists of the origins, and NOTSPT with the set
+    pub round: bool,
+    pub origins: u16,
+    pub set: u16,
+}
+
+pub fn post_link(store: &mut [u32], i: usize, l: Letter, known: [u16; 16], c: Counts) -> Counts
+    requires { ⌜ (length (now store) ≡ 9216) × (i < 256) ⌝ }
+    ensures { λ r. ⌜ posted (now (store .exit)) r ≡ postLink i l known (posted (now (store .entry)) c) ⌝ }
+{
+    let first = post_if(l.wakes, store, i, l.own, c);
+    if l.round {
+        let then = post_lists(store, i, l.origins, known, first);
+        return post_if(true, store, i, l.set, then);
+    }
+    first
+}
+
+// ---- what has come
+
+// What a round takes off the queues of a box: the sets at the heads, by link; the origins whose lists stood behind them, and those lists, by origin;
+// the links whose queue still holds a message.
+pub struct Gathered {
+    pub heads: [u16; 16],
+    pub listed: u16,
+    pub lists: [u16; 16],
+    pub heard: u16,
+}
+
+// Whether a list stands at the head of the queue of wire i.
+fn list_at(store: &[u32], i: usize) -> bool
+    requires { ⌜ (length (now store) ≡ 9216) × (i < 256) ⌝ }
+    ensures { λ r. ⌜ r ≡ listAt (now (store .entry)) i ⌝ }
+{
+    if wires::queued(store, i) == 0 {
+        return false;
+    }
+    wires::is_list(wires::first(store, i))
+}
+
+// "Some queue has a Neighbors message at its head: take it and save its list."
+fn take_list(store: &mut [u32], i: usize, g: Gathered) -> Gathered
+    requires { ⌜ (length (now store) ≡ 9216) × (i < 256) ⌝ }
+    ensures { λ r. ⌜ got (now (store .exit)) r ≡ takeList i (got (now (store .entry)) g) ⌝ }
+{
+    let x = wires::take(store, i);
+    let k = wires::origin(x);
+    let mut q = g;
+    q.listed = g.listed | sets::only(k);
+    q.lists[k] = wires::set_of(x);
+    q
+}
+
+fn take_lists(store: &mut [u32], i: usize, g: Gathered) -> Gathered
+    requires { ⌜ (length (now store) ≡ 9216) × (i < 256) ⌝ }
+    ensures { λ r. ⌜ got (now (store .exit)) r ≡ takeLists (queued sixteen (now (store .entry)) i) i (got (now (store .entry)) g) ⌝ }
+{
+    let mut q = g;
+    while list_at(store, i) {
+        q = take_list(store, i, q);
+    }
+    q
+}
+
+// "Take one from each link": the head of link j.
+fn take_head(store: &mut [u32], i: usize, j: usize, g: Gathered) -> Gathered
+    requires { ⌜ (length (now store) ≡ 9216) × ((i < 256) × (j < 16)) ⌝ }
+    ensures { λ r. ⌜ got (now (store .exit)) r ≡ takeHead i j (got (now (store .entry)) g) ⌝ }
+{
+    let x = wires::take(store, i);
+    let mut q = g;
+    q.heads[j] = wires::set_of(x);
+    q
+}
+
+// Link j is heard where its queue is not empty.
+fn hear(store: &[u32], i: usize, j: usize, g: Gathered) -> Gathered
+    requires { ⌜ (length (now store) ≡ 9216) × ((i < 256) × (j < 16)) ⌝ }
+    ensures { λ r. ⌜ got (now (store .entry)) r ≡ hear i j (got (now (store .entry)) g) ⌝ }
+{
+    if wires::queued(store, i) == 0 {
+        return g;
+    }
+    let mut q = g;
+    q.heard = g.heard | sets::only(j);
+    q
+}
+
+// From link j to box b, where it is a link: the set at the head, then the lists behind it.
+fn gather_link(store: &mut [u32], b: usize, j: usize, links: u16, g: Gathered) -> Gathered
+    requires { ⌜ (length (now store) ≡ 9216) × ((b < 16) × (j < 16)) ⌝ }
+    ensures { λ r. ⌜ got (now (store .exit)) r ≡ cond (mem j links) (gatherLink b j (got (now (store .entry)) g)) (got (now (store .entry)) g) ⌝ }
+{
+    if sets::is_in(links, j) {
+        let i = j * 16 + b;
+        let head = take_head(store, i, j, g);
+        let lists = take_lists(store, i, head);
+        return hear(store, i, j, lists);
+    }
+    g
+}
+
+// All that a round of box b takes, ascending by link.
+pub fn gather(store: &mut [u32], b: usize, links: u16) -> Gathered
+    requires { ⌜ (length (now store) ≡ 9216) × (b < 16) ⌝ }
+    ensures { λ r. ⌜ got (now (store .exit)) r ≡ gatherTo b links 16 (gotNothing (now (store .entry))) ⌝ }
+{
+    let none: [u16; 16] = [0; 16];
+    let mut q = Gathered {
+        heads: none,
+        listed: 0,
+        lists: none,
+        heard: 0,
+    };
+    for j in 0..16 {
+        q = gather_link(store, b, j, links, q);
+    }
+    q
+}
+
+// ---- what is dropped
+
+// The queue of link j is emptied, where it is a link.
+fn clear_link(store: &mut [u32], b: usize, j: usize, links: u16)
+    requires { ⌜ (length (now store) ≡ 9216) × ((b < 16) × (j < 16)) ⌝ }
+    ensures { λ _. ⌜ now (store .exit) ≡ cond (mem j links) (cleared sixteen (now (store .entry)) (wireOf j b)) (now (store .entry)) ⌝ }
+{
+    if sets::is_in(links, j) {
+        wires::clear(store, j * 16 + b);
+    }
+}
+
+// "A stopping box empties its queues."
+pub fn clear_all(store: &mut [u32], b: usize, links: u16)
+    requires { ⌜ (length (now store) ≡ 9216) × (b < 16) ⌝ }
+    ensures { λ _. ⌜ now (store .exit) ≡ clearTo b links 16 (now (store .entry)) ⌝ }
+{
+    for j in 0..16 {
+        clear_link(store, b, j, links);
+    }
+}

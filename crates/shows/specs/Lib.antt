@@ -1,0 +1,13 @@
+pub mod Held
+pub mod Posts
+pub mod Lists
+pub mod Gathers
+pub mod Receives
+pub mod Settles
+pub mod Shows
+pub mod Small
+pub mod Steps
+pub mod Doing
+pub mod Clears
+pub mod Delivers
+pub mod Runs

@@ -1,0 +1,360 @@
+-- What the calls of one turn come to in its definitions: each law takes what the callees promise, and gives what the function promises.
+-- Assumes nothing.
+use Prim.Native.Nat.{ℕ, zero, suc, _+_, _*_, _/_, _%_, _^_, _<_, _≤_}
+use native.Mathlib.Decide.{decLt}
+use native.Mathlib.Omega.{arith}
+use mathlib.Core.Path.{_≡_, refl, sym, ap, _∙_}
+use mathlib.Core.Bool.{Bool, true, false, not, _&&_, _||_, cond, true≢false}
+use mathlib.Core.List.{List, [], _∷_}
+use lib.Bits.{bitOr}
+use lib.Dec.{eqb, ltb}
+use lib.ListN.{length, getD, set, replicate}
+use borrow.Author.Tests.{lt-ltb, le-ltb, eq-eqb, ne-eqb}
+use Rattle.rules.specs.Sets.{mem, without, word, least, any, forEach}
+use Rattle.sets.specs.Mem.{mem-empty}
+use Rattle.sets.specs.Loops.{least-le, least-hit, least-ok, any-in, any-out, by-bool, forEach-keeps}
+use Rattle.wires.specs.Words.{isList, originOf, setOf}
+use Rattle.wires.specs.Wires.{sixteen, none, queued, underWay, arrived, oldest, skipped, taken}
+use Rattle.boxes.specs.declared.Record.{Record}
+use Rattle.boxes.specs.declared.Arrival.{Arrival}
+use Rattle.boxes.specs.declared.Departure.{Departure}
+use Rattle.boxes.specs.Record.{blank}
+use Rattle.boxes.specs.Step.{stepDef}
+use Rattle.mail.specs.declared.Gathered.{Gathered}
+use Rattle.mail.specs.declared.Letter.{Letter}
+use Rattle.mail.specs.declared.Counts.{Counts}
+use Rattle.mail.specs.Post.{Posted, postIf}
+use Rattle.mail.specs.Letter.{posted, postLink}
+use Rattle.mail.specs.Gather.{Got, gotNothing, wireOf, gatherTo, clearTo}
+use Rattle.mail.specs.Gathered.{got}
+use Rattle.mail.proofs.Laws.{picked-yes}
+use Rattle.turns.specs.declared.Turn.{Turn}
+use Rattle.turns.specs.declared.Pair.{Pair}
+use Rattle.turns.specs.declared.Ran.{Ran}
+use Rattle.turns.specs.Turn.{searched, nextPair, sleeps, quiet, heardAt, oneList, roundOf, tookRound, tookFirst, delivered, begun, tookPair, tookDef, Took, letter, postTo, lessBusy, moreBusy, ends, Put, nextTurn, putDef, Going, turnDef, turnsDef, firstTurn, asleepRow, ownDef}
+use Rattle.turns.specs.Parts.{took, sending, lessOf, moreOf, turnAfter, going, ran, ranOf}
+
+-- ---- choices
+
+pub picked-else : {A : Type 0} (b c : Bool) (x y z : A) → b ≡ c → b ≡ false → z ≡ y → z ≡ cond c x y
+picked-else b c x y z e f h = rw (← e, f) h
+
+-- a property of both arms
+pick : {A : Type 0} (P : A → Type 0) (b : Bool) {x y : A} → P x → P y → P (cond b x y)
+pick P true p q = p
+pick P false p q = q
+
+-- ---- the search
+
+abbrev pub nobody : Pair
+nobody = record { some = false; «from» = 0; to = 0 }
+
+-- the search's answer, once its sender is found
+fromSender : List ℕ → ℕ → Pair
+fromSender busy a = record { some = ltb a 16; «from» = cond (ltb a 16) a 0; to = cond (ltb a 16) (least 16 (λ b. mem b (word busy a))) 0 }
+
+least-is : (w : ℕ) (f : ℕ → Bool) (k : ℕ) → k < w → f k ≡ true → ((j : ℕ) → j < k → f j ≡ false) → least w f ≡ k
+least-is w f k l t none =
+    let hit = least-hit w f k l t in
+    let not-less : least w f < k → ⊥ = λ h. true≢false (sym (hit .1) ∙ none (least w f) h) in
+    omega (arith, hit .0, not-less)
+
+least-none : (w : ℕ) (f : ℕ → Bool) → ((j : ℕ) → j < w → f j ≡ false) → least w f ≡ w
+least-none w f none =
+    let not-less : least w f < w → ⊥ = λ h. true≢false (sym (least-ok w f h) ∙ none (least w f) h) in
+    omega (arith, least-le w f, not-less)
+
+any-none : (w : ℕ) (f : ℕ → Bool) → ((j : ℕ) → j < w → f j ≡ false) → any w f ≡ false
+any-none w f none = by-bool (any w f) (λ e. let (k, l, t) = any-out w f e in absurd (true≢false (sym t ∙ none k l))) (λ e. e)
+
+-- the senders below n have nothing under way
+abbrev pub Idle : List ℕ → ℕ → Type 0
+Idle busy n = (k : ℕ) → k < n → (b : ℕ) → b < 16 → mem b (word busy k) ≡ false
+
+pub idle-more : (busy : List ℕ) (n : ℕ) → Idle busy n → ((b : ℕ) → b < 16 → mem b (word busy n) ≡ false) → Idle busy (n + 1)
+idle-more busy n i h k l b m = elim (decLt k n) [ yes p ↦ i k p b m | no q ↦ (let e : k ≡ n = omega arith in rw e (h b m)) ]
+
+pub idle-empty : (to : ℕ) → to ≡ 0 → (b : ℕ) → b < 16 → mem b to ≡ false
+idle-empty to e b l = rw e (mem-empty b)
+
+pub search-none : (busy : List ℕ) → Idle busy 16 → nobody ≡ searched busy
+unfolding searched fromSender
+search-none busy idle =
+    sym (ap (fromSender busy) (least-none 16 (λ a. any 16 (λ b. mem b (word busy a))) (λ a l. any-none 16 (λ b. mem b (word busy a)) (idle a l))))
+
+pub search-found : (busy : List ℕ) (a b : ℕ) → a < 16 → b < 16 → Idle busy a → ((t : ℕ) → t < b → mem t (word busy a) ≡ false) → mem b (word busy a) ≡ true
+    → _≡_ {A = Pair} (record { some = true; «from» = a; to = b }) (searched busy)
+unfolding searched fromSender
+search-found busy a b la lb idle before here =
+    let f : ℕ → Bool = λ k. any 16 (λ t. mem t (word busy k)) in
+    let e : least 16 f ≡ a = least-is 16 f a la (any-in 16 (λ t. mem t (word busy a)) b lb here) (λ j lj. any-none 16 (λ t. mem t (word busy j)) (idle j lj)) in
+    let g : least 16 (λ t. mem t (word busy a)) ≡ b = least-is 16 (λ t. mem t (word busy a)) b lb here before in
+    let t : ltb a 16 ≡ true = lt-ltb a 16 la in
+    sym (ap (fromSender busy) e ∙ rw (t, g))
+
+-- ---- what a pair brings
+
+pub sleeps-no : (c : Turn) (b : ℕ) (t : Bool) → t ≡ mem b (c .awake) → t ≡ true → false ≡ sleeps c b
+unfolding sleeps
+sleeps-no c b t e y = let h : mem b (c .awake) ≡ true = sym e ∙ y in rw h
+
+pub sleeps-by : (c : Turn) (b : ℕ) (t u : Bool) → t ≡ mem b (c .awake) → t ≡ false → u ≡ mem b (c .stopped) → not u ≡ sleeps c b
+unfolding sleeps
+sleeps-by c b t u e n g = let h : mem b (c .awake) ≡ false = sym e ∙ n in rw (h, g)
+
+pub one-list-is : (c : Turn) (a b x k o y : ℕ) (w : Bool) → k ≡ originOf x → o ≡ 2 ^ k → y ≡ setOf x → w ≡ sleeps c b
+    → _≡_ {A = Arrival} (record {
+      own = b;
+      «from» = a;
+      links = word (c .links) b;
+      moved = true;
+      wakes = w;
+      round = false;
+      heads = replicate 16 0;
+      listed = o;
+      lists = set (replicate 16 0) k y;
+      heard = heardAt c b;
+    }) (oneList c a b x)
+unfolding oneList
+one-list-is c a b x k o y w ek eo ey ew = rw (ew, eo, ey, ek)
+
+pub round-is : (c : Turn) (a b : ℕ) (s s′ : List ℕ) (g : Gathered) (w : Bool) → got s′ g ≡ gatherTo b (word (c .links) b) 16 (gotNothing s) → w ≡ sleeps c b
+    → took s′ (record {
+      own = b;
+      «from» = a;
+      links = word (c .links) b;
+      moved = true;
+      wakes = w;
+      round = true;
+      heads = g .heads;
+      listed = g .listed;
+      lists = g .lists;
+      heard = g .heard;
+    }) ≡ tookRound c a b s
+unfolding tookRound roundOf
+round-is c a b s s′ g w e ew = rw ew (ap (λ (z : Got). took (z .store) (roundOf c a b z)) e)
+
+module _ (c : Turn) (a b x : ℕ) (s : List ℕ) (t : Bool) (e : t ≡ isList x) where
+  pub first-list : (s′ : List ℕ) (h : Arrival) → t ≡ true → s′ ≡ taken sixteen s (wireOf a b) → h ≡ oneList c a b x → took s′ h ≡ tookFirst c a b x s
+  unfolding tookFirst
+  first-list s′ h y es eh = let i : isList x ≡ true = sym e ∙ y in rw (i, es, eh)
+
+  pub first-round : (o : ℕ) (k : Took) → t ≡ false → o ≡ 2 ^ a → bitOr (heardAt c b) o ≡ word (c .links) b → k ≡ tookRound c a b s → k ≡ tookFirst c a b x s
+  unfolding tookFirst
+  first-round o k n eo all ek =
+      let i : isList x ≡ false = sym e ∙ n in
+      let f : eqb (bitOr (heardAt c b) (2 ^ a)) (word (c .links) b) ≡ true = eq-eqb _ _ (rw eo at all) in
+      rw (i, f) ek
+
+  pub first-quiet : (o : ℕ) (w : Bool) (h : Arrival) → t ≡ false → o ≡ 2 ^ a → (bitOr (heardAt c b) o ≡ word (c .links) b → ⊥) → w ≡ sleeps c b
+      → h ≡ quiet c a b true w (bitOr (heardAt c b) o) → took s h ≡ tookFirst c a b x s
+  unfolding tookFirst
+  first-quiet o w h n eo some ew eh =
+      let i : isList x ≡ false = sym e ∙ n in
+      let f : eqb (bitOr (heardAt c b) (2 ^ a)) (word (c .links) b) ≡ false = ne-eqb _ _ (rw eo at some) in
+      let g : h ≡ quiet c a b true (sleeps c b) (bitOr (heardAt c b) (2 ^ a)) = rw (← ew, ← eo) eh in
+      rw (i, f, g)
+
+module _ (c : Turn) (a b : ℕ) (s : List ℕ) (n : ℕ) (e : n ≡ underWay sixteen s (wireOf a b)) where
+  pub way-none : (h : Arrival) → n ≡ 0 → h ≡ quiet c a b false false (heardAt c b) → took s h ≡ delivered c a b s
+  unfolding delivered
+  way-none h z eh = let w : underWay sixteen s (wireOf a b) ≡ 0 = sym e ∙ z in rw (w, eh)
+
+  module _ (some : n ≡ 0 → ⊥) where
+    way-some : eqb (underWay sixteen s (wireOf a b)) 0 ≡ false
+    way-some = ne-eqb _ _ (λ z. some (e ∙ z))
+
+    module _ (t : Bool) (et : t ≡ mem b (c .stopped)) where
+      pub way-dropped : (s′ : List ℕ) (h : Arrival) → t ≡ true → s′ ≡ skipped sixteen s (wireOf a b) → h ≡ quiet c a b true false (heardAt c b)
+          → took s′ h ≡ delivered c a b s
+      unfolding delivered
+      way-dropped s′ h y es eh = let g : mem b (c .stopped) ≡ true = sym et ∙ y in rw (way-some, g, es, eh)
+
+      module _ (go : t ≡ false) (q : ℕ) (eq : q ≡ queued sixteen s (wireOf a b)) where
+        pub way-first : (x : ℕ) (s′ : List ℕ) (k : Took) → q ≡ 0 → x ≡ oldest sixteen s (wireOf a b) → s′ ≡ arrived sixteen s (wireOf a b) → k ≡ tookFirst c a b x s′
+            → k ≡ delivered c a b s
+        unfolding delivered
+        way-first x s′ k z ex es ek =
+            let g : mem b (c .stopped) ≡ false = sym et ∙ go in
+            let w : queued sixteen s (wireOf a b) ≡ 0 = sym eq ∙ z in
+            rw (way-some, g, w, ← ex, ← es) ek
+
+        pub way-joins : (s′ : List ℕ) (h : Arrival) → (q ≡ 0 → ⊥) → s′ ≡ arrived sixteen s (wireOf a b) → h ≡ quiet c a b true false (heardAt c b)
+            → took s′ h ≡ delivered c a b s
+        unfolding delivered
+        way-joins s′ h more es eh =
+            let g : mem b (c .stopped) ≡ false = sym et ∙ go in
+            let w : eqb (queued sixteen s (wireOf a b)) 0 ≡ false = ne-eqb _ _ (λ z. more (eq ∙ z)) in
+            rw (way-some, g, w, es, eh)
+
+module _ (c : Turn) (p : Pair) (s : List ℕ) where
+  pub pair-begins : (w : Bool) (h : Arrival) → p .some ≡ true → p .«from» ≡ p .to → w ≡ sleeps c (p .to) → h ≡ quiet c (p .to) (p .to) false w (heardAt c (p .to))
+      → took s h ≡ tookPair c p s
+  unfolding tookPair begun
+  pair-begins w h y e ew eh =
+      let t : eqb (p .«from») (p .to) ≡ true = eq-eqb _ _ e in
+      rw (y, t, ← ew, eh)
+
+  pub pair-delivers : (k : Took) → p .some ≡ true → (p .«from» ≡ p .to → ⊥) → k ≡ delivered c (p .«from») (p .to) s → k ≡ tookPair c p s
+  unfolding tookPair
+  pair-delivers k y n ek = let t : eqb (p .«from») (p .to) ≡ false = ne-eqb _ _ n in rw (y, t) ek
+
+  pub pair-none : (h : Arrival) → p .some ≡ false → h ≡ quiet c 0 0 false false (heardAt c 0) → took s h ≡ tookPair c p s
+  unfolding tookPair
+  pair-none h n eh = rw (n, eh)
+
+-- the receiver is a box
+delivered-own : (c : Turn) (a b : ℕ) (s : List ℕ) → delivered c a b s .arrival .own ≡ b
+unfolding delivered quiet tookFirst tookRound roundOf oneList
+delivered-own c a b s =
+    pick Own (eqb (underWay sixteen s (wireOf a b)) 0) refl
+    (pick Own (mem b (c .stopped)) refl
+    (pick Own (eqb (queued sixteen s (wireOf a b)) 0)
+    (pick Own (isList (oldest sixteen s (wireOf a b))) refl (pick Own (eqb (bitOr (heardAt c b) (2 ^ a)) (word (c .links) b)) refl refl))
+    refl))
+  where
+    Own : Took → Type 0
+    Own k = k .arrival .own ≡ b
+
+pub took-own : (c : Turn) (p : Pair) (s : List ℕ) → p .to < 16 → tookPair c p s .arrival .own < 16
+unfolding tookPair begun quiet
+took-own c p s l =
+    pick (λ (k : Took). k .arrival .own < 16) (p .some)
+    (pick (λ (k : Took). k .arrival .own < 16) (eqb (p .«from») (p .to)) l (rw (delivered-own c (p .«from») (p .to) s) l))
+    (omega arith)
+
+-- ---- what goes out
+
+pub stops-by : (o : Departure) (r : Bool) → o .stops ≡ true → r ≡ sending o → r ≡ ends o
+unfolding ends
+stops-by o r y e = rw y e
+
+pub stops-not : (o : Departure) → o .stops ≡ false → false ≡ ends o
+unfolding ends
+stops-not o n = rw n
+
+pub less-none : (s : List ℕ) (o : Departure) (to n x r : ℕ) → o .moved ≡ true → n ≡ underWay sixteen s (wireOf (o .«from» % 16) (o .own % 16)) → n ≡ 0
+    → x ≡ 2 ^ (o .own % 16) → r ≡ without to x → r ≡ lessOf s o to
+less-none s o to n x r y e z ex er =
+    let w : underWay sixteen s (wireOf (o .«from» % 16) (o .own % 16)) ≡ 0 = sym e ∙ z in
+    rw (y, w, ← ex) er
+
+pub less-some : (s : List ℕ) (o : Departure) (to n : ℕ) → o .moved ≡ true → n ≡ underWay sixteen s (wireOf (o .«from» % 16) (o .own % 16)) → (n ≡ 0 → ⊥)
+    → to ≡ lessOf s o to
+less-some s o to n y e z =
+    let w : eqb (underWay sixteen s (wireOf (o .«from» % 16) (o .own % 16))) 0 ≡ false = ne-eqb _ _ (λ h. z (e ∙ h)) in
+    rw (y, w)
+
+pub letter-is : (o : Departure) (i j own : ℕ) (p q : Posted) → own ≡ 2 ^ (o .own % 16)
+    → q ≡ postLink i (record { wakes = o .wakes; own = own; round = o .round; origins = word (o .origins) j; «set» = word (o .sets) j }) (o .neighbors) p
+    → q ≡ postLink i (letter o j) (o .neighbors) p
+letter-is o i j own p q e g = rw (← e) g
+
+-- a box that neither wakes nor does a round has nothing to say
+nothing-said : (i : ℕ) (l : Letter) (known : List ℕ) (p : Posted) → l .wakes ≡ false → l .round ≡ false → postLink i l known p ≡ p
+unfolding postLink postIf
+nothing-said i l known p w r = rw (r, w)
+
+neither : (x y : Bool) → x || y ≡ false → (x ≡ false) × (y ≡ false)
+neither true y e = absurd (true≢false e)
+neither false y e = (refl, e)
+
+pub nothing-goes : (o : Departure) (links : ℕ) (p : Posted) → sending o ≡ false → p ≡ postTo o links 16 p
+unfolding postTo
+nothing-goes o links p e =
+    let n = neither (o .wakes) (o .round) e in
+    forEach-keeps links (λ j. postLink (wireOf (o .own % 16) j) (letter o j) (o .neighbors)) (λ k x. p ≡ x) 16 p refl
+    (λ k x l m h. h ∙ sym (nothing-said (wireOf (o .own % 16) k) (letter o k) (o .neighbors) x (n .0) (n .1)))
+    (λ k x l m h. h)
+
+-- ---- the next pair, and what is taken for it
+
+pub pair-listed : (list : List ℕ) (c : Turn) → c .at < c .pairs
+    → _≡_ {A = Pair} (record { some = true; «from» = word list (c .at * 2) % 16; to = word list (c .at * 2 + 1) % 16 }) (nextPair list c)
+unfolding nextPair
+pair-listed list c l = rw (lt-ltb _ _ l)
+
+pub pair-searched : (list : List ℕ) (c : Turn) (p : Pair) → c .pairs ≤ c .at → p ≡ searched (c .busy) → p ≡ nextPair list c
+unfolding nextPair
+pair-searched list c p l e = rw (le-ltb _ _ l) e
+
+pub take-is : (list s s′ : List ℕ) (c : Turn) (p : Pair) (h : Arrival) → p ≡ nextPair list c → p .to < 16 → took s′ h ≡ tookPair c p s
+    → (h ≡ tookDef list s c .arrival) × ((s′ ≡ tookDef list s c .store) × (h .own < 16))
+unfolding tookDef
+take-is list s s′ c p h e l t =
+    let all : took s′ h ≡ tookDef list s c = t ∙ ap (λ (q : Pair). tookPair c q s) e in
+    (ap (λ (k : Took). k .arrival) all, (ap (λ (k : Took). k .store) all, omega (arith, ap (λ (k : Took). k .arrival .own) t, took-own c p s l)))
+
+-- ---- what is carried on
+
+-- what stands in a table already
+set-same : (t : List ℕ) (k : ℕ) → set t k (word t k) ≡ t
+set-same [] k = refl
+set-same (x ∷ t) zero = refl
+set-same (x ∷ t) (suc k) = ap (λ (u : List ℕ). x ∷ u) (set-same t k)
+
+set-if : (b : Bool) (t : List ℕ) (k x : ℕ) → cond b (set t k x) t ≡ set t k (cond b x (word t k))
+set-if true t k x = refl
+set-if false t k x = sym (set-same t k)
+
+put-turn : (s s′ : List ℕ) (o : Departure) (c : Turn) (to sent : ℕ) (full : Bool) → to ≡ lessOf s o (word (c .busy) (o .«from» % 16))
+    → turnAfter c o to sent full ≡ nextTurn c o s (record { store = s′; sent = sent; full = full })
+unfolding nextTurn moreBusy lessBusy
+put-turn s s′ o c to sent full e = rw (e, set-if, set-if)
+
+pub put-is : (s s₁ s₂ : List ℕ) (o : Departure) (c r : Turn) (to : ℕ) (p : Counts) → to ≡ lessOf s o (word (c .busy) (o .«from» % 16))
+    → s₁ ≡ cond (ends o) (clearTo (o .own % 16) (word (c .links) (o .own % 16)) 16 s) s
+    → posted s₂ p ≡ postTo o (word (c .links) (o .own % 16)) 16 (record { store = s₁; sent = c .sent; full = c .full })
+    → r ≡ turnAfter c o to (p .sent) (p .full)
+    → (r ≡ putDef s o c .turn) × (s₂ ≡ putDef s o c .store)
+unfolding putDef
+put-is s s₁ s₂ o c r to p et e₁ e₂ er =
+    let links : ℕ = word (c .links) (o .own % 16) in
+    let all = e₂ ∙ ap (λ (z : List ℕ). postTo o links 16 (record { store = z; sent = c .sent; full = c .full })) e₁ in
+    (er ∙ put-turn s s₂ o c to (p .sent) (p .full) et ∙ ap (nextTurn c o s) all, ap (λ (q : Posted). q .store) all)
+
+-- ---- a turn, and turns
+
+pub turn-is : (ls : List ℕ) (rs rs′ : List Record) (ss ss′ ss″ : List ℕ) (c r : Turn) (h : Arrival) (o : Departure)
+    → h ≡ tookDef ls ss c .arrival → ss′ ≡ tookDef ls ss c .store
+    → rs′ ≡ set rs (h .own) (stepDef (getD rs (h .own) blank) h .«record») → o ≡ stepDef (getD rs (h .own) blank) h .out
+    → r ≡ putDef ss′ o c .turn → ss″ ≡ putDef ss′ o c .store
+    → going rs′ ss″ r ≡ turnDef ls (going rs ss c)
+unfolding turnDef
+turn-is ls rs rs′ ss ss′ ss″ c r h o eh e′ er eo et e″ = rw (et, e″, eo, er, e′, eh)
+
+pub turns-over : (t : ℕ) (ls : List ℕ) (g : Going) → g .turn .left ≡ 0 → turnsDef t ls g ≡ g
+unfolding turnsDef
+turns-over zero ls g e = refl
+turns-over (suc t) ls g e = rw e
+
+pub turns-on : (t : ℕ) (ls : List ℕ) (g h : Going) → 1 ≤ g .turn .left → h ≡ turnDef ls g → turnsDef (suc t) ls g ≡ turnsDef t ls h
+unfolding turnsDef
+turns-on t ls g h l e = let n : eqb (g .turn .left) 0 ≡ false = ne-eqb (g .turn .left) 0 (λ z. omega arith) in rw (n, e)
+
+-- each turn leaves fewer
+pub turn-less : (t : ℕ) (ls : List ℕ) (g h : Going) → g .turn .left ≤ suc t → h ≡ turnDef ls g → h .turn .left ≤ t
+unfolding turnDef putDef nextTurn
+turn-less t ls g h l e =
+    rw e (pick (λ (k : ℕ). k ≤ t) (ltb (g .turn .at) (g .turn .pairs) || stepDef (getD (g .row) (tookDef ls (g .store) (g .turn) .arrival .own) blank) (tookDef ls (g .store) (g .turn) .arrival) .out .moved)
+    (omega arith) (omega arith))
+
+pub turn-pairs : (ls : List ℕ) (g h : Going) → h ≡ turnDef ls g → h .turn .pairs ≡ g .turn .pairs
+unfolding turnDef putDef nextTurn
+turn-pairs ls g h e = rw e
+
+-- from the sleeping row and the empty store
+pub ran-is : (n : ℕ) (ls : List ℕ) (rs rs′ : List Record) (ss ss′ : List ℕ) (first c : Turn) (r : Ran) → rs ≡ asleepRow → ss ≡ none sixteen
+    → going rs′ ss′ c ≡ turnsDef n ls (going rs ss first) → r ≡ ran rs′ c → r ≡ ranOf (turnsDef n ls (going asleepRow (none sixteen) first))
+ran-is n ls rs rs′ ss ss′ first c r er es g e =
+    e ∙ ap ranOf (g ∙ ap (λ (z : List Record). turnsDef n ls (going z ss first)) er ∙ ap (λ (z : List ℕ). turnsDef n ls (going asleepRow z first)) es)
+
+-- the pairs of the first turn are those of the list
+pub first-within : (list links : List ℕ) (budget : ℕ) (first : Turn) → first ≡ firstTurn links (length list / 2) budget → first .pairs * 2 ≤ length list
+unfolding firstTurn
+first-within list links budget first e = omega (arith, ap (λ (c : Turn). c .pairs) e)
+
+pub own-is : (list links : List ℕ) (budget : ℕ) (first : Turn) (r : Ran) → first ≡ firstTurn links (length list / 2) budget
+    → r ≡ ranOf (turnsDef (first .left) list (going asleepRow (none sixteen) first)) → r ≡ ranOf (ownDef list links budget)
+unfolding ownDef firstTurn
+own-is list links budget first r e g = g ∙ ap (λ (c : Turn). ranOf (turnsDef (c .left) list (going asleepRow (none sixteen) c))) e

@@ -1,0 +1,16 @@
+-- `turns::first_turn` meets its contract. Assumes nothing.
+use borrow.Author.Needs.{needs}
+use mathlib.Core.Path.{refl}
+use Rattle.turns.specs.Turn.{firstTurn}
+use Rattle.turns.proofs.first_turn.Statement.{statement}
+use Rattle.turns.proofs.first_turn.Tie as tie
+
+add-t5 : tie.Need-add-t5
+add-t5 c = search needs
+
+returns : tie.Need-returns
+unfolding firstTurn
+returns c = refl
+
+pub first-turn-spec : {M : Type 1} → statement M
+first-turn-spec = tie.close (tie.spec add-t5 returns)

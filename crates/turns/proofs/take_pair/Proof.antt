@@ -1,0 +1,54 @@
+-- `turns::take_pair` meets its contract. Assumes nothing.
+use borrow.Author.Needs.{needs}
+use Rattle.turns.proofs.Laws.{pair-begins, pair-delivers, pair-none}
+use Rattle.turns.proofs.take_pair.Statement.{statement}
+use Rattle.turns.proofs.take_pair.Tie as tie
+
+sleeps-requires : tie.Need-sleeps-requires
+sleeps-requires c κs = search needs
+
+mul-heard : tie.Need-mul-heard
+mul-heard c = search needs
+
+element-copy-out-heard : tie.Need-element-copy-out-heard
+element-copy-out-heard c = search needs
+
+quiet-requires : tie.Need-quiet-requires
+quiet-requires c κs = search needs
+
+returns : tie.Need-returns
+returns c = pair-begins (c .before .before .before .before .before .before .args .t3) (c .before .before .before .before .before .before .args .p) _ _ _ (c .before .before .before .before .if1 .taken) (c .before .before .before .if2 .taken) (c .before .before .sleeps .ensures) (c .quiet .ensures)
+
+take-oldest-requires : tie.Need-take-oldest-requires
+take-oldest-requires c κs = search needs
+
+same-length : tie.Need-same-length
+same-length c = search needs
+
+returns-2 : tie.Need-returns-2
+returns-2 c = pair-delivers (c .before .before .before .before .before .before .before .args .t3) (c .before .before .before .before .before .before .before .args .p) _ _ (c .before .before .before .before .before .if1 .taken) (c .before .before .before .before .if2 .left) (c .before .before .take-oldest .ensures)
+
+element-copy-out-heard-2 : tie.Need-element-copy-out-heard-2
+element-copy-out-heard-2 c = search needs
+
+quiet-requires-2 : tie.Need-quiet-requires-2
+quiet-requires-2 c κs = search needs
+
+returns-3 : tie.Need-returns-3
+returns-3 c = pair-none (c .before .before .before .before .args .t3) (c .before .before .before .before .args .p) _ _ (c .before .before .if1 .left) (c .quiet2 .ensures)
+
+pub take-pair-spec : {M : Type 1} → statement M
+take-pair-spec =
+    tie.close
+    (tie.spec
+    sleeps-requires
+    mul-heard
+    element-copy-out-heard
+    quiet-requires
+    returns
+    take-oldest-requires
+    same-length
+    returns-2
+    element-copy-out-heard-2
+    quiet-requires-2
+    returns-3)

@@ -1,0 +1,512 @@
+// A run of the hub, turn by turn: the next pair, what it brings, what goes out. Document 01, "Lists and the drain".
+ghost use mathlib.Core.Path.{_≡_};
+ghost use Prim.Native.Nat.{ℕ, _+_, _*_, _/_, _%_, _<_, _≤_};
+ghost use mathlib.Core.Bool.{cond};
+ghost use lib.ListN.{length};
+ghost use Rattle.rules.specs.Sets.{mem, word};
+ghost use Rattle.wires.specs.Wires.{sixteen, none};
+ghost use Rattle.mail.specs.Gather.{clearTo, wireOf};
+ghost use Rattle.mail.specs.Letter.{posted, postLink};
+ghost use Rattle.turns.specs.Turn.{searched, nextPair, sleeps, quiet, oneList, roundOf, tookRound, tookFirst, delivered, begun, tookPair, tookDef, letter, postTo, ends, putDef, turnDef, turnsDef, firstTurn, asleepRow, ownDef};
+ghost use Rattle.turns.specs.Parts.{took, sending, leftAfter, atAfter, movedAfter, awakeAfter, stoppedAfter, heardAfter, lessOf, moreOf, turnAfter, going, ran, ranOf};
+use boxes::Arrival;
+use boxes::Departure;
+use boxes::Record;
+use mail::Counts;
+use mail::Gathered;
+use mail::Letter;
+
+// The wire that is served next: a start where both ends are one box. some: there is one.
+pub struct Pair {
+    pub some: bool,
+    pub from: usize,
+    pub to: usize,
+}
+
+// What a run carries from turn to turn, by value.
+pub struct Turn {
+    // how many turns may still come; the next pair of the list, and how many pairs it has
+    pub left: usize,
+    pub at: usize,
+    pub pairs: usize,
+    // the counts, and whether a message found no room
+    pub sent: u32,
+    pub moved: u32,
+    pub full: bool,
+    // the boxes that are awake, and those that have stopped
+    pub awake: u16,
+    pub stopped: u16,
+    // by box: its link set; the links whose queue holds a message; the boxes to which it has messages under way
+    pub links: [u16; 16],
+    pub heard: [u16; 16],
+    pub busy: [u16; 16],
+}
+
+// ---- the next pair
+
+// "It searches senders ascending, then receivers, and leaves the search at the first wire that holds a message."
+pub fn search(busy: [u16; 16]) -> Pair
+    ensures { λ r. ⌜ (r ≡ searched busy) × ((r .«from» < 16) × (r .to < 16)) ⌝ }
+{
+    let mut p = Pair {
+        some: false,
+        from: 0,
+        to: 0,
+    };
+    'search: for a in 0..16 {
+        let to = busy[a];
+        if to != 0 {
+            for b in 0..16 {
+                if sets::is_in(to, b) {
+                    p = Pair {
+                        some: true,
+                        from: a,
+                        to: b,
+                    };
+                    break 'search;
+                }
+            }
+        }
+    }
+    p
+}
+
+// The pairs of the list, while it lasts; then the search.
+pub fn next_pair(list: &[u8], c: Turn) -> Pair
+    requires { ⌜ c .pairs * 2 ≤ length (now list) ⌝ }
+    ensures { λ r. ⌜ (r ≡ nextPair (now (list .entry)) c) × ((r .«from» < 16) × (r .to < 16)) ⌝ }
+{
+    let at = c.at;
+    if at < c.pairs {
+        let k = at * 2;
+        return Pair {
+            some: true,
+            from: (list[k] % 16) as usize,
+            to: (list[k + 1] % 16) as usize,
+        };
+    }
+    let busy = c.busy;
+    search(busy)
+}
+
+// ---- what it brings
+
+fn sleeps(c: Turn, b: usize) -> bool
+    requires { ⌜ b < 16 ⌝ }
+    ensures { λ r. ⌜ r ≡ sleeps c b ⌝ }
+{
+    if sets::is_in(c.awake, b) {
+        return false;
+    }
+    !sets::is_in(c.stopped, b)
+}
+
+// Nothing for the record but, maybe, that the box wakes.
+fn quiet(c: Turn, a: usize, b: usize, moved: bool, wakes: bool, heard: u16) -> Arrival
+    requires { ⌜ b < 16 ⌝ }
+    ensures { λ h. ⌜ h ≡ quiet c a b moved wakes heard ⌝ }
+{
+    let none: [u16; 16] = [0; 16];
+    Arrival {
+        own: b,
+        from: a,
+        links: c.links[b],
+        moved: moved,
+        wakes: wakes,
+        round: false,
+        heads: none,
+        listed: 0,
+        lists: none,
+        heard: heard,
+    }
+}
+
+// A list at the head of an empty queue is taken at once.
+fn one_list(c: Turn, a: usize, b: usize, x: u32) -> Arrival
+    requires { ⌜ b < 16 ⌝ }
+    ensures { λ h. ⌜ h ≡ oneList c a b x ⌝ }
+{
+    let none: [u16; 16] = [0; 16];
+    let k = wires::origin(x);
+    let mut lists = none;
+    lists[k] = wires::set_of(x);
+    Arrival {
+        own: b,
+        from: a,
+        links: c.links[b],
+        moved: true,
+        wakes: sleeps(c, b),
+        round: false,
+        heads: none,
+        listed: sets::only(k),
+        lists: lists,
+        heard: c.heard[b],
+    }
+}
+
+// "All queues have a NOTSPT message at their heads: do a round."
+fn take_round(store: &mut [u32], c: Turn, a: usize, b: usize) -> Arrival
+    requires { ⌜ (length (now store) ≡ 9216) × (b < 16) ⌝ }
+    ensures { λ h. ⌜ took (now (store .exit)) h ≡ tookRound c a b (now (store .entry)) ⌝ }
+{
+    let links = c.links[b];
+    let g = mail::gather(store, b, links);
+    let heads = g.heads;
+    let lists = g.lists;
+    Arrival {
+        own: b,
+        from: a,
+        links: links,
+        moved: true,
+        wakes: sleeps(c, b),
+        round: true,
+        heads: heads,
+        listed: g.listed,
+        lists: lists,
+        heard: g.heard,
+    }
+}
+
+// The word x has joined the queue of the wire from a to b, which was empty.
+fn take_first(store: &mut [u32], c: Turn, a: usize, b: usize, x: u32) -> Arrival
+    requires { ⌜ (length (now store) ≡ 9216) × ((a < 16) × (b < 16)) ⌝ }
+    ensures { λ h. ⌜ took (now (store .exit)) h ≡ tookFirst c a b x (now (store .entry)) ⌝ }
+{
+    if wires::is_list(x) {
+        wires::take(store, a * 16 + b);
+        return one_list(c, a, b, x);
+    }
+    let heard = c.heard[b] | sets::only(a);
+    if heard == c.links[b] {
+        return take_round(store, c, a, b);
+    }
+    let wakes = sleeps(c, b);
+    quiet(c, a, b, true, wakes, heard)
+}
+
+// "A delivery takes the oldest message off a wire."
+fn take_oldest(store: &mut [u32], c: Turn, a: usize, b: usize) -> Arrival
+    requires { ⌜ (length (now store) ≡ 9216) × ((a < 16) × (b < 16)) ⌝ }
+    ensures { λ h. ⌜ took (now (store .exit)) h ≡ delivered c a b (now (store .entry)) ⌝ }
+{
+    let i = a * 16 + b;
+    let heard = c.heard[b];
+    if wires::under_way(store, i) == 0 {
+        return quiet(c, a, b, false, false, heard);
+    }
+    if sets::is_in(c.stopped, b) {
+        wires::skip(store, i);
+        return quiet(c, a, b, true, false, heard);
+    }
+    if wires::queued(store, i) == 0 {
+        let x = wires::arrive(store, i);
+        return take_first(store, c, a, b, x);
+    }
+    wires::arrive(store, i);
+    quiet(c, a, b, true, false, heard)
+}
+
+// "a = b starts box a. Otherwise the oldest message on the wire from a to b is delivered."
+fn take_pair(store: &mut [u32], p: Pair, c: Turn) -> Arrival
+    requires { ⌜ (length (now store) ≡ 9216) × ((p .«from» < 16) × (p .to < 16)) ⌝ }
+    ensures { λ h. ⌜ took (now (store .exit)) h ≡ tookPair c p (now (store .entry)) ⌝ }
+{
+    if p.some {
+        let a = p.from;
+        let b = p.to;
+        if a == b {
+            let wakes = sleeps(c, b);
+            let heard = c.heard[b];
+            return quiet(c, b, b, false, wakes, heard);
+        }
+        return take_oldest(store, c, a, b);
+    }
+    let heard = c.heard[0];
+    quiet(c, 0, 0, false, false, heard)
+}
+
+pub fn take(store: &mut [u32], list: &[u8], c: Turn) -> Arrival
+    requires { ⌜ (length (now store) ≡ 9216) × (c .pairs * 2 ≤ length (now list)) ⌝ }
+    ensures { λ h. ⌜ (h ≡ tookDef (now (list .entry)) (now (store .entry)) c .arrival) × ((now (store .exit) ≡ tookDef (now (list .entry)) (now (store .entry)) c .store) × (h .own < 16)) ⌝ }
+{
+    let p = next_pair(list, c);
+    take_pair(store, p, c)
+}
+
+// ---- what goes out
+
+// All that goes to box j, where it is a link.
+fn post_to(store: &mut [u32], o: Departure, j: usize, links: u16, c: Counts) -> Counts
+    requires { ⌜ (length (now store) ≡ 9216) × (j < 16) ⌝ }
+    ensures { λ r. ⌜ posted (now (store .exit)) r ≡ cond (mem j links) (postLink (wireOf (o .own % 16) j) (letter o j) (o .neighbors) (posted (now (store .entry)) c)) (posted (now (store .entry)) c) ⌝ }
+{
+    if sets::is_in(links, j) {
+        let b = o.own % 16;
+        let known = o.neighbors;
+        let l = Letter {
+            wakes: o.wakes,
+            own: sets::only(b),
+            round: o.round,
+            origins: o.origins[j],
+            set: o.sets[j],
+        };
+        return mail::post_link(store, b * 16 + j, l, known, c);
+    }
+    c
+}
+
+// To every link, ascending. A box that neither wakes nor does a round sends nothing.
+pub fn post_all(store: &mut [u32], o: Departure, links: u16, c: Counts) -> Counts
+    requires { ⌜ length (now store) ≡ 9216 ⌝ }
+    ensures { λ r. ⌜ posted (now (store .exit)) r ≡ postTo o links 16 (posted (now (store .entry)) c) ⌝ }
+{
+    if sends(o) {
+        let mut q = c;
+        for j in 0..16 {
+            q = post_to(store, o, j, links, q);
+        }
+        return q;
+    }
+    c
+}
+
+// ---- what is carried on
+
+// Whether anything goes out.
+fn sends(o: Departure) -> bool
+    ensures { λ r. ⌜ r ≡ sending o ⌝ }
+{
+    if o.wakes {
+        return true;
+    }
+    o.round
+}
+
+// The box has stopped in this turn.
+fn stopping(o: Departure) -> bool
+    ensures { λ r. ⌜ r ≡ ends o ⌝ }
+{
+    if o.stops {
+        return sends(o);
+    }
+    false
+}
+
+// "A stopping box empties its queues."
+fn clear_ended(store: &mut [u32], o: Departure, links: u16)
+    requires { ⌜ length (now store) ≡ 9216 ⌝ }
+    ensures { λ _. ⌜ now (store .exit) ≡ cond (ends o) (clearTo (o .own % 16) links 16 (now (store .entry))) (now (store .entry)) ⌝ }
+{
+    if stopping(o) {
+        let b = o.own % 16;
+        mail::clear_all(store, b, links);
+    }
+}
+
+// The receivers that the sender still has messages under way to: not this one, once its last message was moved.
+fn less_busy(store: &[u32], o: Departure, to: u16) -> u16
+    requires { ⌜ length (now store) ≡ 9216 ⌝ }
+    ensures { λ r. ⌜ r ≡ lessOf (now (store .entry)) o to ⌝ }
+{
+    let a = o.from % 16;
+    let b = o.own % 16;
+    if o.moved {
+        if wires::under_way(store, a * 16 + b) == 0 {
+            return sets::minus(to, sets::only(b));
+        }
+    }
+    to
+}
+
+// A box that sends has messages under way to each of its links.
+fn more_busy(o: Departure, links: u16, to: u16) -> u16
+    ensures { λ r. ⌜ r ≡ moreOf o links to ⌝ }
+{
+    if sends(o) {
+        return to | links;
+    }
+    to
+}
+
+fn left_after(left: usize, at: usize, pairs: usize, moved: bool) -> usize
+    requires { ⌜ 1 ≤ left ⌝ }
+    ensures { λ r. ⌜ r ≡ leftAfter left at pairs moved ⌝ }
+{
+    if at < pairs {
+        return left - 1;
+    }
+    if moved { left - 1 } else { 0 }
+}
+
+fn at_after(at: usize, pairs: usize) -> usize
+    ensures { λ r. ⌜ r ≡ atAfter at pairs ⌝ }
+{
+    if at < pairs { at + 1 } else { at }
+}
+
+fn moved_after(n: u32, moved: bool) -> u32
+    ensures { λ r. ⌜ r ≡ movedAfter n moved ⌝ }
+{
+    if moved {
+        return std::num::wrapping_add_u32(n, 1);
+    }
+    n
+}
+
+fn awake_after(awake: u16, o: Departure) -> u16
+    ensures { λ r. ⌜ r ≡ awakeAfter awake o ⌝ }
+{
+    let b = o.own % 16;
+    if stopping(o) {
+        return sets::minus(awake, sets::only(b));
+    }
+    if o.wakes {
+        return awake | sets::only(b);
+    }
+    awake
+}
+
+fn stopped_after(stopped: u16, o: Departure) -> u16
+    ensures { λ r. ⌜ r ≡ stoppedAfter stopped o ⌝ }
+{
+    let b = o.own % 16;
+    if stopping(o) {
+        return stopped | sets::only(b);
+    }
+    stopped
+}
+
+fn heard_after(o: Departure) -> u16
+    ensures { λ r. ⌜ r ≡ heardAfter o ⌝ }
+{
+    if stopping(o) {
+        return 0;
+    }
+    o.heard
+}
+
+// The state is carried on where it stands: `to` is what the sender still has under way.
+fn turn_after(c: Turn, o: Departure, to: u16, p: Counts) -> Turn
+    requires { ⌜ 1 ≤ c .left ⌝ }
+    ensures { λ r. ⌜ r ≡ turnAfter c o to (p .sent) (p .full) ⌝ }
+{
+    let a = o.from % 16;
+    let b = o.own % 16;
+    let links = c.links[b];
+    let mut n = c;
+    n.left = left_after(c.left, c.at, c.pairs, o.moved);
+    n.at = at_after(c.at, c.pairs);
+    n.sent = p.sent;
+    n.moved = moved_after(c.moved, o.moved);
+    n.full = p.full;
+    n.awake = awake_after(c.awake, o);
+    n.stopped = stopped_after(c.stopped, o);
+    n.heard[b] = heard_after(o);
+    n.busy[a] = to;
+    n.busy[b] = more_busy(o, links, n.busy[b]);
+    n
+}
+
+pub fn put(store: &mut [u32], o: Departure, c: Turn) -> Turn
+    requires { ⌜ (length (now store) ≡ 9216) × (1 ≤ c .left) ⌝ }
+    ensures { λ r. ⌜ (r ≡ putDef (now (store .entry)) o c .turn) × (now (store .exit) ≡ putDef (now (store .entry)) o c .store) ⌝ }
+{
+    let a = o.from % 16;
+    let b = o.own % 16;
+    let links = c.links[b];
+    let to = less_busy(store, o, c.busy[a]);
+    clear_ended(store, o, links);
+    let first = Counts {
+        sent: c.sent,
+        full: c.full,
+    };
+    let p = post_all(store, o, links, first);
+    turn_after(c, o, to, p)
+}
+
+// ---- turns
+
+// One turn: the row and the store are both lent.
+pub fn one_turn(row: &mut [Record], store: &mut [u32], list: &[u8], c: Turn) -> Turn
+    requires { ⌜ (length (now row) ≡ 16) × ((length (now store) ≡ 9216) × ((1 ≤ c .left) × (c .pairs * 2 ≤ length (now list)))) ⌝ }
+    ensures { λ r. ⌜ going (now (row .exit)) (now (store .exit)) r ≡ turnDef (now (list .entry)) (going (now (row .entry)) (now (store .entry)) c) ⌝ }
+{
+    let h = take(store, list, c);
+    let o = boxes::deliver_at(row, h.own, h);
+    put(store, o, c)
+}
+
+// One loop for the list and for the drain: it goes on while the state says so.
+pub fn run_turns(row: &mut [Record], store: &mut [u32], list: &[u8], first: Turn) -> Turn
+    requires { ⌜ (length (now row) ≡ 16) × ((length (now store) ≡ 9216) × (first .pairs * 2 ≤ length (now list))) ⌝ }
+    ensures { λ r. ⌜ going (now (row .exit)) (now (store .exit)) r ≡ turnsDef (first .left) (now (list .entry)) (going (now (row .entry)) (now (store .entry)) first) ⌝ }
+{
+    let mut c = first;
+    while 0 < c.left {
+        c = one_turn(row, store, list, c);
+    }
+    c
+}
+
+// ---- the whole
+
+// What a run leaves: the row, by value, and the last turn's state.
+pub struct Ran {
+    pub row: [Record; 16],
+    pub turn: Turn,
+}
+
+// Every box asleep.
+pub fn sleeping_row() -> [Record; 16]
+    ensures { λ r. ⌜ r ≡ asleepRow ⌝ }
+{
+    let r = boxes::asleep();
+    [r; 16]
+}
+
+// The pairs of the list, then at most budget deliveries.
+fn first_turn(links: [u16; 16], pairs: usize, budget: usize) -> Turn
+    requires { ⌜ pairs + budget < 18446744073709551616 ⌝ }
+    ensures { λ r. ⌜ r ≡ firstTurn links pairs budget ⌝ }
+{
+    let none: [u16; 16] = [0; 16];
+    Turn {
+        left: pairs + budget,
+        at: 0,
+        pairs: pairs,
+        sent: 0,
+        moved: 0,
+        full: false,
+        awake: 0,
+        stopped: 0,
+        links: links,
+        heard: none,
+        busy: none,
+    }
+}
+
+fn finish(row: [Record; 16], c: Turn) -> Ran
+    ensures { λ r. ⌜ r ≡ ran row c ⌝ }
+{
+    Ran { row: row, turn: c }
+}
+
+// "The run itself owns the row and lends it inward": the row and the store are local arrays, lent to the turns.
+pub fn run_from(list: &[u8], first: Turn) -> Ran
+    requires { ⌜ first .pairs * 2 ≤ length (now list) ⌝ }
+    ensures { λ r. ⌜ r ≡ ranOf (turnsDef (first .left) (now (list .entry)) (going asleepRow (none sixteen) first)) ⌝ }
+{
+    let mut row = sleeping_row();
+    let mut store = wires::empty_store();
+    let c = run_turns(&mut row, &mut store, list, first);
+    finish(row, c)
+}
+
+// The whole run, from a sleeping hub: the pairs of the list, then at most budget deliveries.
+pub fn run_own(list: &[u8], links: [u16; 16], budget: usize) -> Ran
+    requires { ⌜ length (now list) / 2 + budget < 18446744073709551616 ⌝ }
+    ensures { λ r. ⌜ r ≡ ranOf (ownDef (now (list .entry)) links budget) ⌝ }
+{
+    let pairs = list.len() / 2;
+    run_from(list, first_turn(links, pairs, budget))
+}
