@@ -33,8 +33,8 @@ fn add_link(t: [u16; 16], a: usize, b: usize) -> [u16; 16]
 
 // ---- reading
 
-// A byte of the sheet, as a number.
-fn byte_at(s: &[u8], i: usize) -> usize
+// A byte, as a number.
+pub fn byte_at(s: &[u8], i: usize) -> usize
     requires { ⌜ i < length (now s) ⌝ }
     ensures { λ r. ⌜ (r ≡ getD (now (s .entry)) i 0) × (r < 256) ⌝ }
 {

@@ -1,0 +1,53 @@
+use mathlib.Core.Path.{sym, _∙_}
+use Rattle.hub.proofs.ListLaws.{high-first, high-second, a-start, a-link, no-link}
+use borrow.Author.Needs.{needs}
+use Rattle.hub.proofs.pair_number.Statement.{statement}
+use Rattle.hub.proofs.pair_number.Tie as tie
+use Rattle.hub.proofs.pair_number.Reads as reads
+use Rattle.hub.proofs.pair_number.Lts as lts
+use Rattle.sets.proofs.is_in.Reads as is-in-reads
+
+-- src/lib.rt:41:9
+returns : tie.Need-returns
+returns c = high-first _ _ _ _ (search needs)
+
+-- src/lib.rt:44:9
+returns-2 : tie.Need-returns-2
+returns-2 c = high-second _ _ _ _ (search needs) (search needs)
+
+-- src/lib.rt:47:9
+returns-3 : tie.Need-returns-3
+returns-3 c = a-start _ _ _ _ (search needs) (search needs) (search needs)
+
+-- src/lib.rt:49:20
+mul-is-in : tie.Need-mul-is-in
+mul-is-in c = search needs
+
+-- src/lib.rt:49:20
+array-read-is-in : tie.Need-array-read-is-in
+array-read-is-in c = search needs
+
+-- src/lib.rt:49:8
+is-in-requires : tie.Need-is-in-requires
+is-in-requires c κs = search needs
+
+-- src/lib.rt:50:9
+returns-4 : tie.Need-returns-4
+returns-4 c = a-link _ _ _ _ (search needs) (search needs) (search needs) (sym (c .before .is-in .ensures) ∙ c .if4 .taken)
+
+-- src/lib.rt:36:1
+returns-5 : tie.Need-returns-5
+returns-5 c = no-link _ _ _ _ (search needs) (search needs) (search needs) (sym (c .before .is-in .ensures) ∙ c .if4 .left)
+
+pub pair-number-spec : {M : Type 1} → statement M
+pair-number-spec =
+    tie.close
+    (tie.spec
+    returns
+    returns-2
+    returns-3
+    mul-is-in
+    array-read-is-in
+    is-in-requires
+    returns-4
+    returns-5)
