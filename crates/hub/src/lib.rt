@@ -1,13 +1,15 @@
 // The hub's two calls: the run of a list of deliveries, and the drain. Document 01, "Lists and the drain" and "Numbers given when the hub refuses".
 ghost use mathlib.Core.Path.{_≡_};
 ghost use Prim.Native.Nat.{ℕ, _+_, _*_, _<_, _≤_};
-ghost use mathlib.Core.List.{List};
-ghost use lib.ListN.{length};
+ghost use mathlib.Core.Bool.{cond};
+ghost use mathlib.Core.List.{[], _∷_, _++_};
+ghost use lib.ListN.{length, take};
+ghost use Rattle.rules.specs.Sets.{mem};
 ghost use Rattle.rules.specs.Hub.{run, drain, sleeping};
 ghost use Rattle.rules.specs.Rest.{Table};
 ghost use Rattle.rules.specs.Calls.{hubAnswer, fitting, runCall, drainCall};
 ghost use Rattle.order.specs.Terms.{Names};
-ghost use Rattle.hub.specs.Answers.{answerOf, noAnswer, pairNumber, listNumber};
+ghost use Rattle.hub.specs.Answers.{answerOf, noAnswer, pairNumber, listNumber, startPairs};
 
 // What a run or a drain answers. At refusal the number alone, and zeros.
 pub struct Answer {
@@ -73,4 +75,41 @@ fn list_number(list: &[u8], n: usize, table: [u16; 16]) -> u32
         i += 2;
     }
     0
+}
+
+// ---- a set of boxes to start, as a list of pairs
+
+pub struct Starts {
+    pub pairs: [u8; 32],
+    pub len: usize,
+}
+
+// Box i joins, where it is in the set.
+fn add_start(q: Starts, starts: u16, i: usize) -> Starts
+    requires { ⌜ (i < 16) × (q .len ≤ 2 * i) ⌝ }
+    ensures { λ r. ⌜ (take (r .len) (r .pairs) ≡ take (q .len) (q .pairs) ++ cond (mem i starts) (i ∷ i ∷ []) []) × (r .len ≤ 2 * i + 2) ⌝ }
+{
+    if sets::is_in(starts, i) {
+        let at = q.len;
+        let mut r = q;
+        r.pairs[at] = i as u8;
+        r.pairs[at + 1] = i as u8;
+        r.len = at + 2;
+        return r;
+    }
+    q
+}
+
+fn start_list(starts: u16) -> Starts
+    ensures { λ r. ⌜ (take (r .len) (r .pairs) ≡ startPairs 16 starts) × (r .len ≤ 32) ⌝ }
+{
+    let none: [u8; 32] = [0; 32];
+    let mut q = Starts {
+        pairs: none,
+        len: 0,
+    };
+    for i in 0..16 {
+        q = add_start(q, starts, i);
+    }
+    q
 }
