@@ -5,7 +5,7 @@ use mathlib.Core.Bool.{Bool, true, false, not, _&&_, _||_, cond, true≢false, f
 use mathlib.Core.List.{List, [], _∷_, _++_}
 use mathlib.Core.Logic.{_⊎_, inl, inr, ⊎-elim, _≢_}
 use native.Mathlib.Omega.{arith}
-use native.Mathlib.Decide.{ℕ-discrete}
+use native.Mathlib.Decide.{ℕ-discrete, decLt}
 use lib.ListN.{length, getD, length-append, List·getD-append, List·getD-eq-default}
 use lib.Pow.{pow-pos}
 use lib.Seq.{getD-at}
@@ -142,6 +142,16 @@ pub each-same : {A : Type 0} (n : ℕ) (f g : ℕ → List A) → ((k : ℕ) →
 unfolding each
 each-same zero f g h = refl
 each-same (suc n) f g h = ap₂ _++_ (each-same n f g (λ k l. h k (omega arith))) (h n (omega arith))
+
+module _ {A : Type 0} (f : ℕ → List A) where
+  pub each-mono : (n k : ℕ) → k ≤ n → length (each k f) ≤ length (each n f)
+  unfolding each
+  each-mono zero k h = let z : k ≡ 0 = omega arith in rw z (omega arith)
+  each-mono (suc n) k h =
+      elim (decLt k (suc n)) [
+        | yes l ↦ omega (arith, each-mono n k (omega arith), length-append (each n f) (f n))
+        | no l ↦ let z : k ≡ suc n = omega arith in rw z (omega arith)
+      ]
 
 pub length-words : (n : ℕ) (f : ℕ → ℕ) → length (words n f) ≡ n
 unfolding words each

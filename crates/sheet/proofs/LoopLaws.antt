@@ -4,9 +4,7 @@ use native.Mathlib.Omega.{arith}
 use native.Mathlib.Decide.{decLt}
 use mathlib.Core.Path.{_≡_, refl}
 use mathlib.Core.Bool.{Bool, true, false, _&&_}
-use mathlib.Core.List.{List}
-use lib.ListN.{length, length-append}
-use Rattle.rules.specs.Sets.{bit, all, count, sum, each}
+use Rattle.rules.specs.Sets.{bit, all, count, sum}
 
 and-true : (a : Bool) → (a && true) ≡ a
 and-true true = refl
@@ -43,13 +41,3 @@ pub sum-mono : (n : ℕ) (f g : ℕ → ℕ) → ((k : ℕ) → f k ≤ g k) →
 unfolding sum
 sum-mono zero f g h = omega arith
 sum-mono (suc n) f g h = omega (arith, sum-mono n f g h, h n)
-
-module _ {A : Type 0} (f : ℕ → List A) where
-  pub each-mono : (n k : ℕ) → k ≤ n → length (each k f) ≤ length (each n f)
-  unfolding each
-  each-mono zero k h = let z : k ≡ 0 = omega arith in rw z (omega arith)
-  each-mono (suc n) k h =
-      elim (decLt k (suc n)) [
-        | yes l ↦ omega (arith, each-mono n k (omega arith), length-append (each n f) (f n))
-        | no l ↦ let z : k ≡ suc n = omega arith in rw z (omega arith)
-      ]

@@ -6,21 +6,21 @@ use mathlib.Core.Path.{_≡_, _∙_}
 use mathlib.Core.Bool.{true, false}
 use mathlib.Core.List.{List, [], _∷_, _++_}
 use lib.ListN.{length, drop, length-append}
-use lib.Seq.{sets, sets-eq}
+use lib.Seq.{sets}
 use borrow.Author.Tests.{lt-ltb, le-ltb, eq-eqb, ne-eqb}
 use Rattle.rules.specs.Outcome.{refuse}
 use Rattle.rules.specs.Sets.{all}
 use Rattle.rules.specs.Sheet.{linkBytes, linkCount, proper, sheetBytes, writeSheet}
 use Rattle.rules.specs.Calls.{Written, writeAnswer, writeCall}
+use Rattle.sets.specs.Stores.{sets-after, sets-front}
 use Rattle.sheet.specs.Writing.{linkProper}
-use Rattle.sheet.proofs.WriteLaws.{sets-after, bytes-length}
+use Rattle.sheet.proofs.WriteLaws.{bytes-length}
 
 -- two runs of stores from the buffer's start
 stored-both : (l t b : List ℕ) → length l + length t ≤ length b → sets (sets b 0 l) (length l) t ≡ (l ++ t) ++ drop (length (l ++ t)) b
 stored-both l t b h =
     let a = rw zero-add at (sets-after l t b 0) in
-    let z = rw zero-add at (sets-eq (l ++ t) b 0 (rw zero-add (simp length-append h))) in
-    a ∙ z
+    a ∙ sets-front (l ++ t) b (simp length-append h)
 
 module _ (n : ℕ) (t b : List ℕ) where
   pub write-none : n ≡ 0 → _≡_ {A = Written} (record { number = 3; size = 0; buffer = b }) (writeCall n t b)

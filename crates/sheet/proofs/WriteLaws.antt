@@ -1,58 +1,16 @@
--- The bytes of a table: how many there are, and how a store after a store joins. Assumes nothing.
-use Prim.Native.Nat.{ℕ, zero, suc, _+_, _-_, _*_, _<_, _≤_}
+-- The bytes of a table: how many there are. Assumes nothing.
+use Prim.Native.Nat.{ℕ, zero, suc, _-_, _*_, _≤_}
 use native.Mathlib.Omega.{arith}
 use native.Mathlib.Decide.{decLt}
-use native.Mathlib.Nat.{add-zero}
-use native.Mathlib.Numerals.{add-one}
-use mathlib.Core.Path.{_≡_, refl, sym}
+use mathlib.Core.Path.{_≡_, refl}
 use mathlib.Core.Bool.{Bool, true, false, cond}
-use mathlib.Core.List.{List, [], _∷_, _++_}
-use lib.ListN.{length, length-append, set}
-use lib.Seq.{sets, length-sets}
+use mathlib.Core.List.{List, [], _∷_}
+use lib.ListN.{length, length-append}
 use borrow.Author.Tests.{le-ltb}
 use Rattle.rules.specs.Sets.{bit, count, sum, each}
 use Rattle.rules.specs.Sheet.{linkBytes, linkCount}
 use Rattle.sheet.specs.Writing.{isLink, pairOf}
-use Rattle.sheet.proofs.LoopLaws.{count-next, sum-mono, each-mono}
-
--- a run of stores, and another after it
-pub sets-after : (xs ys l : List ℕ) (at : ℕ) → sets (sets l at xs) (at + length xs) ys ≡ sets l at (xs ++ ys)
-sets-after [] ys l at = rw add-zero
-sets-after (x ∷ xs) ys l at =
-    let e : at + suc (length xs) ≡ suc at + length xs = omega arith in
-    rw e (sets-after xs ys (set l at x) (suc at))
-
--- ---- lists f 0, f 1, .. stored one after the other, from `at` on
-
--- the first k of them are stored: where the next goes, and what the buffer holds
-pub record Stored (f : ℕ → List ℕ) (at k place : ℕ) (before now : List ℕ) : Type 0 where
-  pub next : place ≡ at + length (each k f)
-  pub bytes : now ≡ sets before at (each k f)
-
-module _ (f : ℕ → List ℕ) (at : ℕ) (before : List ℕ) where
-  pub stored-none : Stored f at 0 at before before
-  unfolding each
-  stored-none = record { next = sym (add-zero at); bytes = refl }
-
-  module _ (k place : ℕ) (now : List ℕ) (h : Stored f at k place before now) where
-    pub stored-length : length now ≡ length before
-    stored-length = rw (h .bytes) (length-sets before at (each k f))
-
-    -- where n of them fit, there is room for one more
-    pub stored-room : (n : ℕ) → k < n → at + length (each n f) ≤ length before → place + length (f k) ≤ length now
-    stored-room n l r = omega (arith, each-mono f n (suc k) l, more, stored-length, h .next)
-      where
-        more : length (each (suc k) f) ≡ length (each k f) + length (f k)
-        more = unfold each in length-append (each k f) (f k)
-
-    pub stored-next : (place′ : ℕ) (now′ : List ℕ) → place′ ≡ place + length (f k) → now′ ≡ sets now place (f k) → Stored f at (k + 1) place′ before now′
-    unfolding each
-    stored-next place′ now′ e b = record {
-      next = rw add-one (omega (arith, length-append (each k f) (f k), h .next));
-      bytes = rw (add-one, b, h .bytes, h .next) (sets-after (each k f) (f k) before at);
-    }
-
--- ---- how many
+use Rattle.sheet.proofs.LoopLaws.{count-next, sum-mono}
 
 bit-most : (b : Bool) → bit b ≤ 1
 bit-most true = omega arith

@@ -5,8 +5,8 @@ use native.Mathlib.Nat.{zero-add}
 use mathlib.Core.Path.{_≡_, _∙_}
 use borrow.Author.Needs.{needs}
 use Rattle.rules.specs.Sheet.{linkBytes}
+use Rattle.sets.specs.Stores.{Stored, stored-none, stored-length, stored-room, stored-next}
 use Rattle.sheet.specs.Writing.{rowBytes}
-use Rattle.sheet.proofs.WriteLaws.{Stored, stored-none, stored-length, stored-room, stored-next}
 use Rattle.sheet.proofs.put_links.Statement.{statement}
 use Rattle.sheet.proofs.put_links.Tie as tie
 
@@ -45,7 +45,7 @@ unfolding linkBytes
 returns c =
     let e : c .before .loop .i ≡ 16 = omega arith in
     let s = rw e at (c .before .loop .inv .1) in
-    (s .next ∙ zero-add _, s .bytes)
+    (s .next ∙ zero-add _, s .holds)
 
 pub put-links-spec : {M : Type 1} → statement M
 put-links-spec =

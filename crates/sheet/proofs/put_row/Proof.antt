@@ -3,8 +3,8 @@ use Prim.Native.Nat.{_≤_, _-_}
 use native.Mathlib.Omega.{arith}
 use mathlib.Core.Path.{_≡_}
 use borrow.Author.Needs.{needs}
+use Rattle.sets.specs.Stores.{Stored, stored-none, stored-length, stored-room, stored-next}
 use Rattle.sheet.specs.Writing.{pairOf}
-use Rattle.sheet.proofs.WriteLaws.{Stored, stored-none, stored-length, stored-room, stored-next}
 use Rattle.sheet.proofs.put_row.Statement.{statement}
 use Rattle.sheet.proofs.put_row.Tie as tie
 
@@ -41,7 +41,7 @@ returns : tie.Need-returns Inv-loop μ-loop
 returns c =
     let e : c .before .loop .j ≡ 16 = omega arith in
     let s = rw e at (c .before .loop .inv .1) in
-    (s .next, s .bytes)
+    (s .next, s .holds)
 
 pub put-row-spec : {M : Type 1} → statement M
 put-row-spec =
