@@ -1,6 +1,6 @@
 -- What the owner's turns leave, in the words of the calls: the counts, the board, and that a refusal shows nothing. Assumes nothing.
 use Prim.Native.Nat.{ℕ, zero, suc, _+_, _-_, _*_, _%_, _≤_, _<_}
-use mathlib.Core.Path.{_≡_, refl, sym, ap, ap₂, _∙_}
+use mathlib.Core.Path.{_≡_, refl, sym, ap, ap₂, _∙_, subst}
 use mathlib.Core.Bool.{Bool, true, false, cond, true≢false, false≢true}
 use mathlib.Core.List.{List, [], _∷_, _++_}
 use native.Mathlib.Omega.{arith}
@@ -21,7 +21,9 @@ use Rattle.order.specs.Sums.{sum-flat}
 use Rattle.order.specs.Sent.{sent-low}
 use Rattle.boxes.specs.Record.{boxOf, blank}
 use Rattle.turns.specs.declared.Turn.{Turn}
+use Rattle.turns.specs.declared.Ran.{Ran as Own}
 use Rattle.turns.specs.Turn.{Going, ownDef}
+use Rattle.turns.specs.Parts.{ranOf}
 use Rattle.shows.specs.Shows.{Shows}
 use Rattle.shows.specs.Runs.{own-shows}
 use Rattle.hub.specs.declared.Answer.{Answer}
@@ -99,3 +101,24 @@ module _ (t : List ℕ) (T : Table 16 t) (list : List ℕ) (M : Names 16 t list)
             → _≡_ {A = Ran} (record { number = 0; sent = c .sent; moved = c .moved; underWay = c .sent - c .moved; finished = eqb (c .sent - c .moved) 0; board = boardOf 16 n ended board })
             (record { number = 0; sent = ended .sent; moved = ended .moved; underWay = underWay 16 ended; finished = eqb (underWay 16 ended) 0; board = boardOf 16 n ended board })
         told x y z = λ i. record { number = 0; sent = x i; moved = y i; underWay = z i; finished = eqb (z i) 0; board = boardOf 16 n ended board }
+
+  -- ---- the same of what the owner answers
+
+  module _ (x : Own) (e : x ≡ ranOf (ownDef list t budget)) where
+    pub own-less : x .turn .moved ≤ x .turn .sent
+    own-less = subst (λ (y : Own). y .turn .moved ≤ y .turn .sent) (sym e) less
+
+    module _ (n : ℕ) (hn : n ≤ 16) (board : List ℕ) (long : 66 * n ≤ length board) where
+      pub own-full : (r : Answer) → r ≡ noAnswer 13 → x .turn .full ≡ true → answerOf r board ≡ hubAnswer 16 n board (fitting 16 n board ended)
+      own-full r f u = wire-full n hn board r f long (sym (ap (λ (y : Own). y .turn .full) e) ∙ u)
+
+      pub own-done : (after : List ℕ) → x .turn .full ≡ false → after ≡ each n (λ i. block (boxOf (getD (x .row) i blank))) ++ drop (66 * n) board
+          → answerOf (record { number = 0; sent = x .turn .sent; moved = x .turn .moved; «under_way» = x .turn .sent - x .turn .moved; finished = eqb (x .turn .sent - x .turn .moved) 0 }) after
+          ≡ hubAnswer 16 n board (fitting 16 n board ended)
+      own-done after u b =
+          all-done n hn board _ after long (sym (ap (λ (y : Own). y .turn .full) e) ∙ u)
+          (b ∙ ap (λ (y : Own). each n (λ i. block (boxOf (getD (y .row) i blank))) ++ drop (66 * n) board) e)
+          (ap (λ (y : Own). told y) e)
+        where
+          told : Own → Answer
+          told y = record { number = 0; sent = y .turn .sent; moved = y .turn .moved; «under_way» = y .turn .sent - y .turn .moved; finished = eqb (y .turn .sent - y .turn .moved) 0 }

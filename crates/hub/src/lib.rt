@@ -117,7 +117,7 @@ fn start_list(starts: u16) -> Starts
 // ---- the calls
 
 // What is left of a call once its sheet and its list are fine: the board's room, the run of the list and then the drain, and the board.
-fn answer(list: &[u8], table: [u16; 16], boxes: usize, budget: u32, board: &mut [u16]) -> Answer
+fn do_all(list: &[u8], table: [u16; 16], boxes: usize, budget: u32, board: &mut [u16]) -> Answer
     requires { ⌜ (boxes ≤ 16) × ((length (now list) ≤ 60000) × (Table 16 table × Names 16 table (now list))) ⌝ }
     ensures { λ r. ⌜ answerOf r (now (board .exit)) ≡ hubAnswer 16 boxes (now (board .entry)) (fitting 16 boxes (now (board .entry)) (drain 16 20 table budget (run 16 20 table (now (list .entry)) (sleeping 16)))) ⌝ }
 {
@@ -156,7 +156,7 @@ pub fn run(sheet: &[u8], list: &[u8], board: &mut [u16]) -> Answer
     if bad != 0 {
         return refused(bad);
     }
-    answer(list, table, boxes, 0, board)
+    do_all(list, table, boxes, 0, board)
 }
 
 // Starts a set of boxes, delivers the first message that it finds until none is under way or the budget is spent, and writes the board.
@@ -177,5 +177,5 @@ pub fn drain(sheet: &[u8], starts: u16, budget: u32, board: &mut [u16]) -> Answe
     let s = start_list(starts);
     let pairs = s.pairs;
     let len = s.len;
-    answer(&pairs[..len], table, boxes, budget, board)
+    do_all(&pairs[..len], table, boxes, budget, board)
 }
