@@ -1,13 +1,13 @@
 -- The calls' answers, refusal by refusal, as the rules have them. Assumes nothing.
 use Prim.Native.Nat.{ℕ, zero, suc, _+_, _*_, _%_, _^_, _≤_, _<_}
-use mathlib.Core.Path.{_≡_, refl, sym, ap, ap₂, _∙_}
+use mathlib.Core.Path.{_≡_, refl, sym, ap, ap₂, _∙_, subst}
 use mathlib.Core.Bool.{Bool, true, false, not, _&&_, _||_, cond, true≢false, false≢true}
 use mathlib.Core.List.{List, [], _∷_, _++_}
 use mathlib.Core.Logic.{_⊎_, inl, inr, ⊎-elim, _≢_}
 use native.Mathlib.Omega.{arith}
 use lib.Dec.{eqb, ltb, leb}
 use lib.ListN.{length}
-use borrow.Author.Tests.{le-leb, lt-leb, leb-false}
+use borrow.Author.Tests.{le-leb, lt-leb, leb-false, ltb-false}
 use Rattle.rules.specs.Sets.{mem, word, forEach}
 use Rattle.rules.specs.Outcome.{Outcome, refused, accepted, refuse}
 use Rattle.rules.specs.Sheet.{Sheet, readSheet}
@@ -150,6 +150,16 @@ module _ (s : List ℕ) (p : Parsed) (h : ParsedFrom s p) (board : List ℕ) whe
         nine : _≡_ {A = ℕ} 9 0 → ⊥
         nine x = omega arith
 
+    pub run-short : (list : List ℕ) → listNumber n t list ≡ 0 → length list ≤ 60000
+    unfolding listNumber
+    run-short list e =
+        by-bool (eqb (length list % 2) 1)
+        (λ u. absurd (nine (rw u at e)))
+        (λ u. by-bool (ltb longestList (length list)) (λ v. absurd (nine (rw (u, v) at e))) (λ v. ltb-false longestList (length list) v))
+      where
+        nine : _≡_ {A = ℕ} 9 0 → ⊥
+        nine x = omega arith
+
     pub run-does : (list : List ℕ) → listNumber n t list ≡ 0
         → hubAnswer 16 n board (fitting 16 n board (drain 16 20 t 0 (run 16 20 t list (sleeping 16)))) ≡ runCall s list board
     unfolding runCall running drain
@@ -165,6 +175,10 @@ module _ (s : List ℕ) (p : Parsed) (h : ParsedFrom s p) (board : List ℕ) whe
         ap (λ (x : Answer). answerOf x board) e
         ∙ sym (ap (λ (b : Bool). hubAnswer 16 n board (refuse b 10 0 (fitting 16 n board (drain 16 20 t budget (startAll 16 20 t starts (sleeping 16)))))) (le-leb (2 ^ n) starts l))
         ∙ sym (on-sheet (draining 16 20 starts budget board))
+
+    -- the starts as a list of pairs
+    pub starts-facts : (starts : ℕ) (list : List ℕ) → list ≡ startPairs 16 starts → Names 16 t list
+    starts-facts starts list e = subst (Names 16 t) (sym e) (starts-names 16 t starts 16 (omega arith))
 
     pub drain-does : (starts budget : ℕ) → starts < 2 ^ n
         → hubAnswer 16 n board (fitting 16 n board (drain 16 20 t budget (run 16 20 t (startPairs 16 starts) (sleeping 16)))) ≡ drainCall s starts budget board

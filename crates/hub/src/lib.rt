@@ -1,6 +1,6 @@
 // The hub's two calls: the run of a list of deliveries, and the drain. Document 01, "Lists and the drain" and "Numbers given when the hub refuses".
 ghost use mathlib.Core.Path.{_≡_};
-ghost use Prim.Native.Nat.{ℕ, _+_, _*_, _<_, _≤_};
+ghost use Prim.Native.Nat.{_+_, _*_, _^_, _<_, _≤_};
 ghost use mathlib.Core.Bool.{cond};
 ghost use mathlib.Core.List.{[], _∷_, _++_};
 ghost use lib.ListN.{length, take};
@@ -68,7 +68,12 @@ fn list_number(list: &[u8], n: usize, table: [u16; 16]) -> u32
     }
     let mut i = 0;
     while i < end {
-        let k = pair_number(n, table, sheet::byte_at(list, i), sheet::byte_at(list, i + 1));
+        let k = pair_number(
+            n,
+            table,
+            sheet::byte_at(list, i),
+            sheet::byte_at(list, i + 1),
+        );
         if k != 0 {
             return k;
         }
@@ -98,6 +103,14 @@ fn add_start(q: Starts, starts: u16, i: usize) -> Starts
         return r;
     }
     q
+}
+
+// The first number that is no set of boxes below n.
+fn past_boxes(n: usize) -> u32
+    requires { ⌜ n ≤ 16 ⌝ }
+    ensures { λ r. ⌜ r ≡ 2 ^ n ⌝ }
+{
+    1 << n
 }
 
 fn start_list(starts: u16) -> Starts
@@ -170,8 +183,7 @@ pub fn drain(sheet: &[u8], starts: u16, budget: u32, board: &mut [u16]) -> Answe
     }
     let boxes = p.boxes;
     let table = p.table;
-    let past: u32 = 1 << boxes;
-    if past <= starts as u32 {
+    if past_boxes(boxes) <= starts as u32 {
         return refused(10);
     }
     let s = start_list(starts);

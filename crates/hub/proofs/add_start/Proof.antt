@@ -40,10 +40,10 @@ add-r-2 c = search needs
 -- src/lib.rt:98:9
 returns : tie.Need-returns
 returns c = (
-    starts-yes (c .before .before .args .starts) (c .before .before .args .i) (c .before .before .args .q .len) (c .before .before .args .q .pairs)
-    (sym (c .before .is-in .ensures) ∙ c .if1 .taken)
-    (let l : length (c .before .before .args .q .pairs) ≡ 32 = search needs in omega arith),
-    search needs,
+  starts-yes (c .before .before .args .starts) (c .before .before .args .i) (c .before .before .args .q .len) (c .before .before .args .q .pairs)
+      (sym (c .before .is-in .ensures) ∙ c .if1 .taken)
+      (let l : length (c .before .before .args .q .pairs) ≡ 32 = search needs in omega arith),
+  search needs,
 )
 
 -- src/lib.rt:88:1

@@ -66,13 +66,13 @@ loop-less c = omega arith
 -- src/lib.rt:68:5
 loop-again : tie.Need-loop-again Inv-loop μ-loop
 loop-again c = (
-    omega arith,
-    refl,
-    c .before .before .before .before .before .loop .inv .2,
-    omega arith,
-    c .before .before .before .before .before .loop .inv .4,
-    sym (pairs-more _ _ _ (c .before .before .before .before .before .loop .i) _ (omega arith) (c .before .pair-number .ensures ∙ ap₂ (pairNumber _ _) (c .before .before .before .byte-at .ensures .0) (c .before .before .byte-at2 .ensures .0)) (search needs))
-    ∙ c .before .before .before .before .before .loop .inv .5,
+  omega arith,
+  refl,
+  c .before .before .before .before .before .loop .inv .2,
+  omega arith,
+  c .before .before .before .before .before .loop .inv .4,
+  sym (pairs-more _ _ _ (c .before .before .before .before .before .loop .i) _ (omega arith) (c .before .pair-number .ensures ∙ ap₂ (pairNumber _ _) (c .before .before .before .byte-at .ensures .0) (c .before .before .byte-at2 .ensures .0)) (search needs))
+      ∙ c .before .before .before .before .before .loop .inv .5,
 )
 
 -- src/lib.rt:56:1

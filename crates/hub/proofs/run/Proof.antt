@@ -1,3 +1,5 @@
+use mathlib.Core.Path.{sym, _∙_}
+use Rattle.hub.proofs.CallLaws.{run-sheet, run-list, run-short, run-names, run-does, table-is}
 use borrow.Author.Needs.{needs}
 use Rattle.hub.proofs.run.Statement.{statement}
 use Rattle.hub.proofs.run.Tie as tie
@@ -18,7 +20,7 @@ refused-requires c κs = search needs
 
 -- src/lib.rt:151:9
 returns : tie.Need-returns
-returns c = ?
+returns c = run-sheet (c .before .before .before .before .before .before .args .sheet .now) (c .before .before .parse .result) (c .before .before .parse .ensures) (c .before .before .before .before .before .before .args .board .now) (c .before .before .before .before .before .before .args .list .now) _ (c .before .if1 .taken) (c .refused .ensures)
 
 -- src/lib.rt:155:9
 list-number-requires : tie.Need-list-number-requires
@@ -30,11 +32,18 @@ refused-requires-2 c κs = search needs
 
 -- src/lib.rt:157:9
 returns-2 : tie.Need-returns-2
-returns-2 c = ?
+returns-2 c = run-list (c .before .before .before .before .before .before .before .before .before .args .sheet .now) (c .before .before .before .before .before .parse .result) (c .before .before .before .before .before .parse .ensures) (c .before .before .before .before .before .before .before .before .before .args .board .now) (c .before .before .before .before .if1 .left) (c .before .before .before .before .before .before .before .before .before .args .list .now) _ _ (c .before .before .list-number .ensures) (c .before .if2 .taken) (c .refused2 .ensures)
 
 -- src/lib.rt:159:5
 do-all-requires : tie.Need-do-all-requires
-do-all-requires c κs = ?
+do-all-requires c κs =
+    let z = sym (c .before .before .list-number .ensures) ∙ c .before .if2 .left in (
+      c .before .before .before .before .before .parse .ensures .boxes-most,
+      (
+        run-short (c .before .before .before .before .before .before .before .before .before .args .sheet .now) (c .before .before .before .before .before .parse .result) (c .before .before .before .before .before .parse .ensures) (c .before .before .before .before .before .before .before .before .before .args .board .now) (c .before .before .before .before .if1 .left) (c .before .before .before .before .before .before .before .before .before .args .list .now) z,
+        (table-is (c .before .before .before .before .before .before .before .before .before .args .sheet .now) (c .before .before .before .before .before .parse .result) (c .before .before .before .before .before .parse .ensures) (c .before .before .before .before .before .before .before .before .before .args .board .now) (c .before .before .before .before .if1 .left), run-names (c .before .before .before .before .before .before .before .before .before .args .sheet .now) (c .before .before .before .before .before .parse .result) (c .before .before .before .before .before .parse .ensures) (c .before .before .before .before .before .before .before .before .before .args .board .now) (c .before .before .before .before .if1 .left) (c .before .before .before .before .before .before .before .before .before .args .list .now) z),
+      ),
+    )
 
 -- src/lib.rt:145:1
 same-length : tie.Need-same-length
@@ -42,7 +51,9 @@ same-length c = search needs
 
 -- src/lib.rt:145:1
 returns-3 : tie.Need-returns-3
-returns-3 c = ?
+returns-3 c =
+    c .before .before .do-all .ensures
+    ∙ run-does (c .before .before .before .before .before .before .before .before .before .before .before .before .args .sheet .now) (c .before .before .before .before .before .before .before .before .parse .result) (c .before .before .before .before .before .before .before .before .parse .ensures) (c .before .before .before .before .before .before .before .before .before .before .before .before .args .board .now) (c .before .before .before .before .before .before .before .if1 .left) (c .before .before .before .before .before .before .before .before .before .before .before .before .args .list .now) (sym (c .before .before .before .before .before .list-number .ensures) ∙ c .before .before .before .before .if2 .left)
 
 pub run-spec : {M : Type 1} → statement M
 run-spec =

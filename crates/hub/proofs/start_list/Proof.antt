@@ -37,9 +37,9 @@ loop-less c = omega arith
 -- src/lib.rt:111:5
 loop-again : tie.Need-loop-again Inv-loop μ-loop
 loop-again c = (
-    omega arith,
-    omega (arith, c .add-start .ensures .1),
-    c .add-start .ensures .0 ∙ starts-more _ _ _ (c .before .before .loop .inv .2) ∙ ap (λ (n : ℕ). startPairs n (c .before .before .before .args .starts)) (sym (add-one (c .before .before .loop .i))),
+  omega arith,
+  omega (arith, c .add-start .ensures .1),
+  c .add-start .ensures .0 ∙ starts-more _ _ _ (c .before .before .loop .inv .2) ∙ ap (λ (n : ℕ). startPairs n (c .before .before .before .args .starts)) (sym (add-one (c .before .before .loop .i))),
 )
 
 -- src/lib.rt:103:1
