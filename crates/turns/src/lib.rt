@@ -109,9 +109,9 @@ fn sleeps(awake: bool, stopped: bool) -> bool
     !stopped
 }
 
-fn receiver(c: Turn, b: usize) -> Receiver
+fn receiver_of(c: Turn, b: usize) -> Receiver
     requires { ⌜ b < 16 ⌝ }
-    ensures { λ r. ⌜ r ≡ receiverOf c b ⌝ }
+    ensures { λ r. ⌜ (r ≡ receiverOf c b) × (r .own < 16) ⌝ }
 {
     let stopped = sets::is_in(c.stopped, b);
     Receiver {
@@ -229,13 +229,13 @@ fn take_pair(store: &mut [u32], p: Pair, c: Turn) -> Arrival
     ensures { λ h. ⌜ took (now (store .exit)) h ≡ tookPair c p (now (store .entry)) ⌝ }
 {
     if p.some {
-        let r = receiver(c, p.to);
+        let r = receiver_of(c, p.to);
         if p.from == p.to {
             return quiet(r, p.to, false, r.sleeps, r.heard);
         }
         return take_oldest(store, r, p.from);
     }
-    let r = receiver(c, 0);
+    let r = receiver_of(c, 0);
     quiet(r, 0, false, false, r.heard)
 }
 
