@@ -64,9 +64,9 @@ unfolding postIf
 said-no c i s p e = rw e
 
 -- the list of origin k, where it is one
-pub list-yes : (b : Bool) (k s i x : ℕ) (known : List ℕ) (p q : Posted) → b ≡ mem k s → b ≡ true → x ≡ wordOf (neighbors k (word known k)) → q ≡ postWord i x p
-    → q ≡ cond (mem k s) (postWord i (wordOf (neighbors k (word known k))) p) p
-list-yes b k s i x known p q e t w g = picked-yes b (mem k s) _ p q e t (g ∙ ap (λ (z : ℕ). postWord i z p) w)
+pub list-yes : (b : Bool) (k s i x list : ℕ) (p q : Posted) → b ≡ mem k s → b ≡ true → x ≡ wordOf (neighbors k list) → q ≡ postWord i x p
+    → q ≡ cond (mem k s) (postWord i (wordOf (neighbors k list)) p) p
+list-yes b k s i x list p q e t w g = picked-yes b (mem k s) _ p q e t (g ∙ ap (λ (z : ℕ). postWord i z p) w)
 
 -- ---- what has come
 

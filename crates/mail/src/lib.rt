@@ -38,34 +38,27 @@ pub fn post(store: &mut [u32], i: usize, word: u32, c: Counts) -> Counts
 }
 
 // The list of origin k joins wire i, where k is one of the origins.
-fn post_list(
-    store: &mut [u32],
-    i: usize,
-    k: usize,
-    origins: u16,
-    known: [u16; 16],
-    c: Counts,
-) -> Counts
+fn post_list(store: &mut [u32], i: usize, k: usize, origins: u16, list: u16, c: Counts) -> Counts
     requires { ⌜ (length (now store) ≡ 9216) × ((i < 256) × (k < 16)) ⌝ }
-    ensures { λ r. ⌜ posted (now (store .exit)) r ≡ cond (mem k origins) (postWord i (wordOf (neighbors k (word known k))) (posted (now (store .entry)) c)) (posted (now (store .entry)) c) ⌝ }
+    ensures { λ r. ⌜ posted (now (store .exit)) r ≡ cond (mem k origins) (postWord i (wordOf (neighbors k list)) (posted (now (store .entry)) c)) (posted (now (store .entry)) c) ⌝ }
 {
     if sets::is_in(origins, k) {
-        return post(store, i, wires::list_word(k, known[k]), c);
+        return post(store, i, wires::list_word(k, list), c);
     }
     c
 }
 
 // "send Neighbors(K), ascending, for K in .."
-fn post_lists(store: &mut [u32], i: usize, origins: u16, known: [u16; 16], c: Counts) -> Counts
+fn post_lists(store: &mut [u32], i: usize, origins: u16, known: &[u16; 16], c: Counts) -> Counts
     requires { ⌜ (length (now store) ≡ 9216) × (i < 256) ⌝ }
-    ensures { λ r. ⌜ posted (now (store .exit)) r ≡ postLists i origins known 16 (posted (now (store .entry)) c) ⌝ }
+    ensures { λ r. ⌜ posted (now (store .exit)) r ≡ postLists i origins (now (known .entry)) 16 (posted (now (store .entry)) c) ⌝ }
 {
     if origins == 0 {
         return c;
     }
     let mut q = c;
     for k in 0..16 {
-        q = post_list(store, i, k, origins, known, q);
+        q = post_list(store, i, k, origins, known[k], q);
     }
     q
 }
@@ -92,9 +85,10 @@ pub struct Letter {
     pub set: u16,
 }
 
-pub fn post_link(store: &mut [u32], i: usize, l: Letter, known: [u16; 16], c: Counts) -> Counts
+// The lists are lent, since most letters carry none.
+pub fn post_link(store: &mut [u32], i: usize, l: Letter, known: &[u16; 16], c: Counts) -> Counts
     requires { ⌜ (length (now store) ≡ 9216) × (i < 256) ⌝ }
-    ensures { λ r. ⌜ posted (now (store .exit)) r ≡ postLink i l known (posted (now (store .entry)) c) ⌝ }
+    ensures { λ r. ⌜ posted (now (store .exit)) r ≡ postLink i l (now (known .entry)) (posted (now (store .entry)) c) ⌝ }
 {
     let first = post_if(l.wakes, store, i, l.own, c);
     if l.round {

@@ -30,9 +30,10 @@ use Rattle.mail.specs.Gathered.{got}
 use Rattle.mail.proofs.Laws.{picked-yes}
 use Rattle.turns.specs.declared.Turn.{Turn}
 use Rattle.turns.specs.declared.Pair.{Pair}
+use Rattle.turns.specs.declared.Receiver.{Receiver}
 use Rattle.turns.specs.declared.Ran.{Ran}
 use Rattle.turns.specs.Turn.{searched, nextPair, sleeps, quiet, heardAt, oneList, roundOf, tookRound, tookFirst, delivered, begun, tookPair, tookDef, Took, letter, postTo, lessBusy, moreBusy, ends, Put, nextTurn, putDef, Going, turnDef, turnsDef, firstTurn, asleepRow, ownDef}
-use Rattle.turns.specs.Parts.{took, sending, lessOf, moreOf, turnAfter, going, ran, ranOf}
+use Rattle.turns.specs.Parts.{took, receiverOf, quietTo, oneListTo, gathered, roundTo, firstTo, deliveredTo, lessOf, leftAfter, atAfter, movedAfter, going, ran, ranOf}
 
 -- ---- choices
 
@@ -92,116 +93,108 @@ search-found busy a b la lb idle before here =
     let t : ltb a 16 ≡ true = lt-ltb a 16 la in
     sym (ap (fromSender busy) e ∙ rw (t, g))
 
--- ---- what a pair brings
+-- ---- what a pair brings, by the receiver's own words
 
-pub sleeps-no : (c : Turn) (b : ℕ) (t : Bool) → t ≡ mem b (c .awake) → t ≡ true → false ≡ sleeps c b
-unfolding sleeps
-sleeps-no c b t e y = let h : mem b (c .awake) ≡ true = sym e ∙ y in rw h
-
-pub sleeps-by : (c : Turn) (b : ℕ) (t u : Bool) → t ≡ mem b (c .awake) → t ≡ false → u ≡ mem b (c .stopped) → not u ≡ sleeps c b
-unfolding sleeps
-sleeps-by c b t u e n g = let h : mem b (c .awake) ≡ false = sym e ∙ n in rw (h, g)
-
-pub one-list-is : (c : Turn) (a b x k o y : ℕ) (w : Bool) → k ≡ originOf x → o ≡ 2 ^ k → y ≡ setOf x → w ≡ sleeps c b
+pub one-list-is : (r : Receiver) (a x k o y : ℕ) → k ≡ originOf x → o ≡ 2 ^ k → y ≡ setOf x
     → _≡_ {A = Arrival} (record {
-      own = b;
+      own = r .own;
       «from» = a;
-      links = word (c .links) b;
+      links = r .links;
       moved = true;
-      wakes = w;
+      wakes = r .sleeps;
       round = false;
       heads = replicate 16 0;
       listed = o;
       lists = set (replicate 16 0) k y;
-      heard = heardAt c b;
-    }) (oneList c a b x)
-unfolding oneList
-one-list-is c a b x k o y w ek eo ey ew = rw (ew, eo, ey, ek)
+      heard = r .heard;
+    }) (oneListTo r a x)
+unfolding oneListTo
+one-list-is r a x k o y ek eo ey = rw (eo, ey, ek)
 
-pub round-is : (c : Turn) (a b : ℕ) (s s′ : List ℕ) (g : Gathered) (w : Bool) → got s′ g ≡ gatherTo b (word (c .links) b) 16 (gotNothing s) → w ≡ sleeps c b
-    → took s′ (record {
-      own = b;
-      «from» = a;
-      links = word (c .links) b;
-      moved = true;
-      wakes = w;
-      round = true;
-      heads = g .heads;
-      listed = g .listed;
-      lists = g .lists;
-      heard = g .heard;
-    }) ≡ tookRound c a b s
-unfolding tookRound roundOf
-round-is c a b s s′ g w e ew = rw ew (ap (λ (z : Got). took (z .store) (roundOf c a b z)) e)
+pub round-is : (r : Receiver) (a : ℕ) (s s′ : List ℕ) (g : Gathered) → got s′ g ≡ gatherTo (r .own) (r .links) 16 (gotNothing s)
+    → took s′ (gathered r a (got s′ g)) ≡ roundTo r a s
+unfolding roundTo
+round-is r a s s′ g e = ap (λ (z : Got). took (z .store) (gathered r a z)) e
 
-module _ (c : Turn) (a b x : ℕ) (s : List ℕ) (t : Bool) (e : t ≡ isList x) where
-  pub first-list : (s′ : List ℕ) (h : Arrival) → t ≡ true → s′ ≡ taken sixteen s (wireOf a b) → h ≡ oneList c a b x → took s′ h ≡ tookFirst c a b x s
-  unfolding tookFirst
+module _ (r : Receiver) (a x : ℕ) (s : List ℕ) (t : Bool) (e : t ≡ isList x) where
+  pub first-list : (s′ : List ℕ) (h : Arrival) → t ≡ true → s′ ≡ taken sixteen s (wireOf a (r .own)) → h ≡ oneListTo r a x → took s′ h ≡ firstTo r a x s
+  unfolding firstTo
   first-list s′ h y es eh = let i : isList x ≡ true = sym e ∙ y in rw (i, es, eh)
 
-  pub first-round : (o : ℕ) (k : Took) → t ≡ false → o ≡ 2 ^ a → bitOr (heardAt c b) o ≡ word (c .links) b → k ≡ tookRound c a b s → k ≡ tookFirst c a b x s
-  unfolding tookFirst
+  pub first-round : (o : ℕ) (k : Took) → t ≡ false → o ≡ 2 ^ a → bitOr (r .heard) o ≡ r .links → k ≡ roundTo r a s → k ≡ firstTo r a x s
+  unfolding firstTo
   first-round o k n eo all ek =
       let i : isList x ≡ false = sym e ∙ n in
-      let f : eqb (bitOr (heardAt c b) (2 ^ a)) (word (c .links) b) ≡ true = eq-eqb _ _ (rw eo at all) in
+      let f : eqb (bitOr (r .heard) (2 ^ a)) (r .links) ≡ true = eq-eqb _ _ (rw eo at all) in
       rw (i, f) ek
 
-  pub first-quiet : (o : ℕ) (w : Bool) (h : Arrival) → t ≡ false → o ≡ 2 ^ a → (bitOr (heardAt c b) o ≡ word (c .links) b → ⊥) → w ≡ sleeps c b
-      → h ≡ quiet c a b true w (bitOr (heardAt c b) o) → took s h ≡ tookFirst c a b x s
-  unfolding tookFirst
-  first-quiet o w h n eo some ew eh =
+  pub first-quiet : (o : ℕ) (h : Arrival) → t ≡ false → o ≡ 2 ^ a → (bitOr (r .heard) o ≡ r .links → ⊥) → h ≡ quietTo r a true (r .sleeps) (bitOr (r .heard) o)
+      → took s h ≡ firstTo r a x s
+  unfolding firstTo
+  first-quiet o h n eo some eh =
       let i : isList x ≡ false = sym e ∙ n in
-      let f : eqb (bitOr (heardAt c b) (2 ^ a)) (word (c .links) b) ≡ false = ne-eqb _ _ (rw eo at some) in
-      let g : h ≡ quiet c a b true (sleeps c b) (bitOr (heardAt c b) (2 ^ a)) = rw (← ew, ← eo) eh in
-      rw (i, f, g)
+      let f : eqb (bitOr (r .heard) (2 ^ a)) (r .links) ≡ false = ne-eqb _ _ (rw eo at some) in
+      rw (i, f, ← eo, eh)
 
-module _ (c : Turn) (a b : ℕ) (s : List ℕ) (n : ℕ) (e : n ≡ underWay sixteen s (wireOf a b)) where
-  pub way-none : (h : Arrival) → n ≡ 0 → h ≡ quiet c a b false false (heardAt c b) → took s h ≡ delivered c a b s
-  unfolding delivered
-  way-none h z eh = let w : underWay sixteen s (wireOf a b) ≡ 0 = sym e ∙ z in rw (w, eh)
+module _ (r : Receiver) (a : ℕ) (s : List ℕ) (n : ℕ) (e : n ≡ underWay sixteen s (wireOf a (r .own))) where
+  pub way-none : (h : Arrival) → n ≡ 0 → h ≡ quietTo r a false false (r .heard) → took s h ≡ deliveredTo r a s
+  unfolding deliveredTo
+  way-none h z eh = let w : underWay sixteen s (wireOf a (r .own)) ≡ 0 = sym e ∙ z in rw (w, eh)
 
   module _ (some : n ≡ 0 → ⊥) where
-    way-some : eqb (underWay sixteen s (wireOf a b)) 0 ≡ false
+    way-some : eqb (underWay sixteen s (wireOf a (r .own))) 0 ≡ false
     way-some = ne-eqb _ _ (λ z. some (e ∙ z))
 
-    module _ (t : Bool) (et : t ≡ mem b (c .stopped)) where
-      pub way-dropped : (s′ : List ℕ) (h : Arrival) → t ≡ true → s′ ≡ skipped sixteen s (wireOf a b) → h ≡ quiet c a b true false (heardAt c b)
-          → took s′ h ≡ delivered c a b s
-      unfolding delivered
-      way-dropped s′ h y es eh = let g : mem b (c .stopped) ≡ true = sym et ∙ y in rw (way-some, g, es, eh)
+    pub way-dropped : (s′ : List ℕ) (h : Arrival) → r .stopped ≡ true → s′ ≡ skipped sixteen s (wireOf a (r .own)) → h ≡ quietTo r a true false (r .heard)
+        → took s′ h ≡ deliveredTo r a s
+    unfolding deliveredTo
+    way-dropped s′ h y es eh = picked-else _ _ _ _ _ refl way-some (picked-yes _ _ _ _ _ refl y (rw (es, eh)))
 
-      module _ (go : t ≡ false) (q : ℕ) (eq : q ≡ queued sixteen s (wireOf a b)) where
-        pub way-first : (x : ℕ) (s′ : List ℕ) (k : Took) → q ≡ 0 → x ≡ oldest sixteen s (wireOf a b) → s′ ≡ arrived sixteen s (wireOf a b) → k ≡ tookFirst c a b x s′
-            → k ≡ delivered c a b s
-        unfolding delivered
-        way-first x s′ k z ex es ek =
-            let g : mem b (c .stopped) ≡ false = sym et ∙ go in
-            let w : queued sixteen s (wireOf a b) ≡ 0 = sym eq ∙ z in
-            rw (way-some, g, w, ← ex, ← es) ek
+    module _ (go : r .stopped ≡ false) (q : ℕ) (eq : q ≡ queued sixteen s (wireOf a (r .own))) where
+      pub way-first : (x : ℕ) (s′ : List ℕ) (k : Took) → q ≡ 0 → x ≡ oldest sixteen s (wireOf a (r .own)) → s′ ≡ arrived sixteen s (wireOf a (r .own))
+          → k ≡ firstTo r a x s′ → k ≡ deliveredTo r a s
+      unfolding deliveredTo
+      way-first x s′ k z ex es ek =
+          let w : eqb (queued sixteen s (wireOf a (r .own))) 0 ≡ true = eq-eqb _ _ (sym eq ∙ z) in
+          picked-else _ _ _ _ _ refl way-some (picked-else _ _ _ _ _ refl go (picked-yes _ _ _ _ _ refl w (rw (← ex, ← es) ek)))
 
-        pub way-joins : (s′ : List ℕ) (h : Arrival) → (q ≡ 0 → ⊥) → s′ ≡ arrived sixteen s (wireOf a b) → h ≡ quiet c a b true false (heardAt c b)
-            → took s′ h ≡ delivered c a b s
-        unfolding delivered
-        way-joins s′ h more es eh =
-            let g : mem b (c .stopped) ≡ false = sym et ∙ go in
-            let w : eqb (queued sixteen s (wireOf a b)) 0 ≡ false = ne-eqb _ _ (λ z. more (eq ∙ z)) in
-            rw (way-some, g, w, es, eh)
+      pub way-joins : (s′ : List ℕ) (h : Arrival) → (q ≡ 0 → ⊥) → s′ ≡ arrived sixteen s (wireOf a (r .own)) → h ≡ quietTo r a true false (r .heard)
+          → took s′ h ≡ deliveredTo r a s
+      unfolding deliveredTo
+      way-joins s′ h more es eh =
+          let w : eqb (queued sixteen s (wireOf a (r .own))) 0 ≡ false = ne-eqb _ _ (λ z. more (eq ∙ z)) in
+          picked-else _ _ _ _ _ refl way-some (picked-else _ _ _ _ _ refl go (picked-else _ _ _ _ _ refl w (rw (es, eh))))
 
-module _ (c : Turn) (p : Pair) (s : List ℕ) where
-  pub pair-begins : (w : Bool) (h : Arrival) → p .some ≡ true → p .«from» ≡ p .to → w ≡ sleeps c (p .to) → h ≡ quiet c (p .to) (p .to) false w (heardAt c (p .to))
+-- ---- and by the whole state
+
+-- the receiver's words, read out of the state
+pub receiver-is : (c : Turn) (b : ℕ) (t u w : Bool) → t ≡ mem b (c .awake) → u ≡ mem b (c .stopped) → w ≡ not t && not u
+    → _≡_ {A = Receiver} (record { own = b; links = word (c .links) b; heard = word (c .heard) b; sleeps = w; stopped = u }) (receiverOf c b)
+unfolding receiverOf sleeps
+receiver-is c b t u w et eu ew = rw (ew, et, eu)
+
+-- the same definitions twice: by the receiver's words, and by the state
+delivered-is : (c : Turn) (a b : ℕ) (s : List ℕ) → deliveredTo (receiverOf c b) a s ≡ delivered c a b s
+unfolding deliveredTo firstTo roundTo oneListTo quietTo receiverOf delivered tookFirst tookRound roundOf oneList quiet
+delivered-is c a b s = refl
+
+module _ (c : Turn) (p : Pair) (s : List ℕ) (r : Receiver) where
+  pub pair-begins : (h : Arrival) → p .some ≡ true → p .«from» ≡ p .to → r ≡ receiverOf c (p .to) → h ≡ quietTo r (p .to) false (r .sleeps) (r .heard)
       → took s h ≡ tookPair c p s
-  unfolding tookPair begun
-  pair-begins w h y e ew eh =
+  unfolding tookPair begun quiet quietTo receiverOf
+  pair-begins h y e er eh =
       let t : eqb (p .«from») (p .to) ≡ true = eq-eqb _ _ e in
-      rw (y, t, ← ew, eh)
+      rw (y, t, eh, er)
 
-  pub pair-delivers : (k : Took) → p .some ≡ true → (p .«from» ≡ p .to → ⊥) → k ≡ delivered c (p .«from») (p .to) s → k ≡ tookPair c p s
+  pub pair-delivers : (k : Took) → p .some ≡ true → (p .«from» ≡ p .to → ⊥) → r ≡ receiverOf c (p .to) → k ≡ deliveredTo r (p .«from») s → k ≡ tookPair c p s
   unfolding tookPair
-  pair-delivers k y n ek = let t : eqb (p .«from») (p .to) ≡ false = ne-eqb _ _ n in rw (y, t) ek
+  pair-delivers k y n er ek =
+      let t : eqb (p .«from») (p .to) ≡ false = ne-eqb _ _ n in
+      rw (y, t) (ek ∙ ap (λ (z : Receiver). deliveredTo z (p .«from») s) er ∙ delivered-is c (p .«from») (p .to) s)
 
-  pub pair-none : (h : Arrival) → p .some ≡ false → h ≡ quiet c 0 0 false false (heardAt c 0) → took s h ≡ tookPair c p s
-  unfolding tookPair
-  pair-none h n eh = rw (n, eh)
+  pub pair-none : (h : Arrival) → p .some ≡ false → r ≡ receiverOf c 0 → h ≡ quietTo r 0 false false (r .heard) → took s h ≡ tookPair c p s
+  unfolding tookPair quiet quietTo receiverOf
+  pair-none h n er eh = rw (n, eh, er)
 
 -- the receiver is a box
 delivered-own : (c : Turn) (a b : ℕ) (s : List ℕ) → delivered c a b s .arrival .own ≡ b
@@ -225,30 +218,22 @@ took-own c p s l =
 
 -- ---- what goes out
 
-pub stops-by : (o : Departure) (r : Bool) → o .stops ≡ true → r ≡ sending o → r ≡ ends o
-unfolding ends
-stops-by o r y e = rw y e
-
-pub stops-not : (o : Departure) → o .stops ≡ false → false ≡ ends o
-unfolding ends
-stops-not o n = rw n
-
-pub less-none : (s : List ℕ) (o : Departure) (to n x r : ℕ) → o .moved ≡ true → n ≡ underWay sixteen s (wireOf (o .«from» % 16) (o .own % 16)) → n ≡ 0
-    → x ≡ 2 ^ (o .own % 16) → r ≡ without to x → r ≡ lessOf s o to
-less-none s o to n x r y e z ex er =
-    let w : underWay sixteen s (wireOf (o .«from» % 16) (o .own % 16)) ≡ 0 = sym e ∙ z in
+pub less-none : (s : List ℕ) (moved : Bool) (a b to n x r : ℕ) → moved ≡ true → n ≡ underWay sixteen s (wireOf a b) → n ≡ 0 → x ≡ 2 ^ b → r ≡ without to x
+    → r ≡ lessOf s moved a b to
+less-none s moved a b to n x r y e z ex er =
+    let w : underWay sixteen s (wireOf a b) ≡ 0 = sym e ∙ z in
     rw (y, w, ← ex) er
 
-pub less-some : (s : List ℕ) (o : Departure) (to n : ℕ) → o .moved ≡ true → n ≡ underWay sixteen s (wireOf (o .«from» % 16) (o .own % 16)) → (n ≡ 0 → ⊥)
-    → to ≡ lessOf s o to
-less-some s o to n y e z =
-    let w : eqb (underWay sixteen s (wireOf (o .«from» % 16) (o .own % 16))) 0 ≡ false = ne-eqb _ _ (λ h. z (e ∙ h)) in
+pub less-some : (s : List ℕ) (moved : Bool) (a b to n : ℕ) → moved ≡ true → n ≡ underWay sixteen s (wireOf a b) → (n ≡ 0 → ⊥) → to ≡ lessOf s moved a b to
+less-some s moved a b to n y e z =
+    let w : eqb (underWay sixteen s (wireOf a b)) 0 ≡ false = ne-eqb _ _ (λ h. z (e ∙ h)) in
     rw (y, w)
 
-pub letter-is : (o : Departure) (i j own : ℕ) (p q : Posted) → own ≡ 2 ^ (o .own % 16)
-    → q ≡ postLink i (record { wakes = o .wakes; own = own; round = o .round; origins = word (o .origins) j; «set» = word (o .sets) j }) (o .neighbors) p
-    → q ≡ postLink i (letter o j) (o .neighbors) p
-letter-is o i j own p q e g = rw (← e) g
+-- the letter that the code writes for box j
+pub letter-is : (o : Departure) (j own links : ℕ) (p q : Posted) → own ≡ 2 ^ (o .own % 16)
+    → q ≡ cond (mem j links) (postLink (wireOf (o .own % 16) j) (record { wakes = o .wakes; own = own; round = o .round; origins = word (o .origins) j; «set» = word (o .sets) j }) (o .neighbors) p) p
+    → q ≡ cond (mem j links) (postLink (wireOf (o .own % 16) j) (letter o j) (o .neighbors) p) p
+letter-is o j own links p q e g = rw (← e) g
 
 -- a box that neither wakes nor does a round has nothing to say
 nothing-said : (i : ℕ) (l : Letter) (known : List ℕ) (p : Posted) → l .wakes ≡ false → l .round ≡ false → postLink i l known p ≡ p
@@ -259,7 +244,7 @@ neither : (x y : Bool) → x || y ≡ false → (x ≡ false) × (y ≡ false)
 neither true y e = absurd (true≢false e)
 neither false y e = (refl, e)
 
-pub nothing-goes : (o : Departure) (links : ℕ) (p : Posted) → sending o ≡ false → p ≡ postTo o links 16 p
+pub nothing-goes : (o : Departure) (links : ℕ) (p : Posted) → o .wakes || o .round ≡ false → p ≡ postTo o links 16 p
 unfolding postTo
 nothing-goes o links p e =
     let n = neither (o .wakes) (o .round) e in
@@ -297,21 +282,64 @@ set-if : (b : Bool) (t : List ℕ) (k x : ℕ) → cond b (set t k x) t ≡ set 
 set-if true t k x = refl
 set-if false t k x = sym (set-same t k)
 
-put-turn : (s s′ : List ℕ) (o : Departure) (c : Turn) (to sent : ℕ) (full : Bool) → to ≡ lessOf s o (word (c .busy) (o .«from» % 16))
-    → turnAfter c o to sent full ≡ nextTurn c o s (record { store = s′; sent = sent; full = full })
-unfolding nextTurn moreBusy lessBusy
-put-turn s s′ o c to sent full e = rw (e, set-if, set-if)
+-- the state that the code leaves: of each part what the code has there
+abbrev left-turn : Turn → Departure → Counts → ℕ → ℕ → ℕ → ℕ → ℕ → ℕ → ℕ → ℕ → Turn
+left-turn c o p left at moved awake stopped heard to more = record {
+  left = left;
+  at = at;
+  pairs = c .pairs;
+  sent = p .sent;
+  moved = moved;
+  full = p .full;
+  awake = awake;
+  stopped = stopped;
+  links = c .links;
+  heard = set (c .heard) (o .own % 16) heard;
+  busy = set (set (c .busy) (o .«from» % 16) to) (o .own % 16) more;
+}
 
-pub put-is : (s s₁ s₂ : List ℕ) (o : Departure) (c r : Turn) (to : ℕ) (p : Counts) → to ≡ lessOf s o (word (c .busy) (o .«from» % 16))
-    → s₁ ≡ cond (ends o) (clearTo (o .own % 16) (word (c .links) (o .own % 16)) 16 s) s
-    → posted s₂ p ≡ postTo o (word (c .links) (o .own % 16)) 16 (record { store = s₁; sent = c .sent; full = c .full })
-    → r ≡ turnAfter c o to (p .sent) (p .full)
-    → (r ≡ putDef s o c .turn) × (s₂ ≡ putDef s o c .store)
-unfolding putDef
-put-is s s₁ s₂ o c r to p et e₁ e₂ er =
-    let links : ℕ = word (c .links) (o .own % 16) in
-    let all = e₂ ∙ ap (λ (z : List ℕ). postTo o links 16 (record { store = z; sent = c .sent; full = c .full })) e₁ in
-    (er ∙ put-turn s s₂ o c to (p .sent) (p .full) et ∙ ap (nextTurn c o s) all, ap (λ (q : Posted). q .store) all)
+-- and what that comes to, ended and sends being the code's tests
+abbrev came-to : Turn → Departure → Counts → ℕ → Bool → Bool → Turn
+came-to c o p to ended sends =
+    let b = o .own % 16 in
+    left-turn c o p
+    (leftAfter (c .left) (c .at) (c .pairs) (o .moved))
+    (atAfter (c .at) (c .pairs))
+    (movedAfter (c .moved) (o .moved))
+    (cond ended (without (c .awake) (2 ^ b)) (cond (o .wakes) (bitOr (c .awake) (2 ^ b)) (c .awake)))
+    (cond ended (bitOr (c .stopped) (2 ^ b)) (c .stopped))
+    (cond ended 0 (o .heard))
+    to
+    (let busy = set (c .busy) (o .«from» % 16) to in cond sends (bitOr (word busy b) (word (c .links) b)) (word busy b))
+
+put-turn : (s s′ : List ℕ) (o : Departure) (c : Turn) (to : ℕ) (p : Counts) → to ≡ lessOf s (o .moved) (o .«from» % 16) (o .own % 16) (word (c .busy) (o .«from» % 16))
+    → came-to c o p to (ends o) (o .wakes || o .round) ≡ nextTurn c o s (posted s′ p)
+unfolding nextTurn moreBusy lessBusy
+put-turn s s′ o c to p e = rw (e, set-if, set-if)
+
+module _ (s s₁ s₂ : List ℕ) (o : Departure) (c : Turn) (p : Counts) (to : ℕ) (ended sends : Bool)
+    (et : to ≡ lessOf s (o .moved) (o .«from» % 16) (o .own % 16) (word (c .busy) (o .«from» % 16)))
+    (en : ended ≡ o .stops && (o .wakes || o .round)) (es : sends ≡ o .wakes || o .round)
+    (e₁ : s₁ ≡ cond ended (clearTo (o .own % 16) (word (c .links) (o .own % 16)) 16 s) s)
+    (e₂ : posted s₂ p ≡ postTo o (word (c .links) (o .own % 16)) 16 (record { store = s₁; sent = c .sent; full = c .full })) where
+  put-whole : (came-to c o p to ended sends ≡ putDef s o c .turn) × (s₂ ≡ putDef s o c .store)
+  unfolding putDef ends
+  put-whole =
+      let b : ℕ = o .own % 16 in
+      let links : ℕ = word (c .links) b in
+      let cut : s₁ ≡ cond (ends o) (clearTo b links 16 s) s = e₁ ∙ ap (λ (z : Bool). cond z (clearTo b links 16 s) s) en in
+      let all = e₂ ∙ ap (λ (z : List ℕ). postTo o links 16 (record { store = z; sent = c .sent; full = c .full })) cut in (
+        ap (λ (z : Bool). came-to c o p to z sends) en ∙ ap (λ (z : Bool). came-to c o p to (ends o) z) es ∙ put-turn s s₂ o c to p et ∙ ap (nextTurn c o s) all,
+        ap (λ (q : Posted). q .store) all,
+      )
+
+  pub put-is : (left at moved awake stopped heard more : ℕ) → left ≡ leftAfter (c .left) (c .at) (c .pairs) (o .moved) → at ≡ atAfter (c .at) (c .pairs)
+      → moved ≡ movedAfter (c .moved) (o .moved)
+      → awake ≡ cond ended (without (c .awake) (2 ^ (o .own % 16))) (cond (o .wakes) (bitOr (c .awake) (2 ^ (o .own % 16))) (c .awake))
+      → stopped ≡ cond ended (bitOr (c .stopped) (2 ^ (o .own % 16))) (c .stopped) → heard ≡ cond ended 0 (o .heard)
+      → more ≡ cond sends (bitOr (word (set (c .busy) (o .«from» % 16) to) (o .own % 16)) (word (c .links) (o .own % 16))) (word (set (c .busy) (o .«from» % 16) to) (o .own % 16))
+      → (left-turn c o p left at moved awake stopped heard to more ≡ putDef s o c .turn) × (s₂ ≡ putDef s o c .store)
+  put-is left at moved awake stopped heard more el ea em ew ep eh eb = (rw (el, ea, em, ew, ep, eh, eb) (put-whole .0), put-whole .1)
 
 -- ---- a turn, and turns
 

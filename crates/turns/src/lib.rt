@@ -1,19 +1,19 @@
 // A run of the hub, turn by turn: the next pair, what it brings, what goes out. Document 01, "Lists and the drain".
 ghost use mathlib.Core.Path.{_≡_};
-ghost use Prim.Native.Nat.{ℕ, _+_, _*_, _/_, _%_, _<_, _≤_};
-ghost use mathlib.Core.Bool.{cond};
+ghost use Prim.Native.Nat.{ℕ, _+_, _*_, _/_, _%_, _^_, _<_, _≤_};
+ghost use mathlib.Core.Bool.{not, _&&_, _||_, cond};
+ghost use lib.Bits.{bitOr};
 ghost use lib.ListN.{length};
-ghost use Rattle.rules.specs.Sets.{mem, word};
+ghost use Rattle.rules.specs.Sets.{mem, without};
 ghost use Rattle.wires.specs.Wires.{sixteen, none};
 ghost use Rattle.mail.specs.Gather.{clearTo, wireOf};
 ghost use Rattle.mail.specs.Letter.{posted, postLink};
-ghost use Rattle.turns.specs.Turn.{searched, nextPair, sleeps, quiet, oneList, roundOf, tookRound, tookFirst, delivered, begun, tookPair, tookDef, letter, postTo, ends, putDef, turnDef, turnsDef, firstTurn, asleepRow, ownDef};
-ghost use Rattle.turns.specs.Parts.{took, sending, leftAfter, atAfter, movedAfter, awakeAfter, stoppedAfter, heardAfter, lessOf, moreOf, turnAfter, going, ran, ranOf};
+ghost use Rattle.turns.specs.Turn.{searched, nextPair, tookPair, tookDef, postTo, putDef, turnDef, turnsDef, firstTurn, asleepRow, ownDef};
+ghost use Rattle.turns.specs.Parts.{took, receiverOf, quietTo, oneListTo, roundTo, firstTo, deliveredTo, lessOf, leftAfter, atAfter, movedAfter, going, ran, ranOf};
 use boxes::Arrival;
 use boxes::Departure;
 use boxes::Record;
 use mail::Counts;
-use mail::Gathered;
 use mail::Letter;
 
 // The wire that is served next: a start where both ends are one box. some: there is one.
@@ -91,26 +91,47 @@ pub fn next_pair(list: &[u8], c: Turn) -> Pair
 
 // ---- what it brings
 
-fn sleeps(c: Turn, b: usize) -> bool
-    requires { ⌜ b < 16 ⌝ }
-    ensures { λ r. ⌜ r ≡ sleeps c b ⌝ }
+// What a turn has to know of the receiver: its number and link set, the links whose queue holds a message, whether it sleeps, whether it has stopped.
+pub struct Receiver {
+    pub own: usize,
+    pub links: u16,
+    pub heard: u16,
+    pub sleeps: bool,
+    pub stopped: bool,
+}
+
+fn sleeps(awake: bool, stopped: bool) -> bool
+    ensures { λ r. ⌜ r ≡ not awake && not stopped ⌝ }
 {
-    if sets::is_in(c.awake, b) {
+    if awake {
         return false;
     }
-    !sets::is_in(c.stopped, b)
+    !stopped
+}
+
+fn receiver_of(c: Turn, b: usize) -> Receiver
+    requires { ⌜ b < 16 ⌝ }
+    ensures { λ r. ⌜ (r ≡ receiverOf c b) × (r .own < 16) ⌝ }
+{
+    let stopped = sets::is_in(c.stopped, b);
+    Receiver {
+        own: b,
+        links: c.links[b],
+        heard: c.heard[b],
+        sleeps: sleeps(sets::is_in(c.awake, b), stopped),
+        stopped: stopped,
+    }
 }
 
 // Nothing for the record but, maybe, that the box wakes.
-fn quiet(c: Turn, a: usize, b: usize, moved: bool, wakes: bool, heard: u16) -> Arrival
-    requires { ⌜ b < 16 ⌝ }
-    ensures { λ h. ⌜ h ≡ quiet c a b moved wakes heard ⌝ }
+fn quiet(r: Receiver, a: usize, moved: bool, wakes: bool, heard: u16) -> Arrival
+    ensures { λ h. ⌜ h ≡ quietTo r a moved wakes heard ⌝ }
 {
     let none: [u16; 16] = [0; 16];
     Arrival {
-        own: b,
+        own: r.own,
         from: a,
-        links: c.links[b],
+        links: r.links,
         moved: moved,
         wakes: wakes,
         round: false,
@@ -122,43 +143,41 @@ fn quiet(c: Turn, a: usize, b: usize, moved: bool, wakes: bool, heard: u16) -> A
 }
 
 // A list at the head of an empty queue is taken at once.
-fn one_list(c: Turn, a: usize, b: usize, x: u32) -> Arrival
-    requires { ⌜ b < 16 ⌝ }
-    ensures { λ h. ⌜ h ≡ oneList c a b x ⌝ }
+fn one_list(r: Receiver, a: usize, x: u32) -> Arrival
+    ensures { λ h. ⌜ h ≡ oneListTo r a x ⌝ }
 {
     let none: [u16; 16] = [0; 16];
     let k = wires::origin(x);
     let mut lists = none;
     lists[k] = wires::set_of(x);
     Arrival {
-        own: b,
+        own: r.own,
         from: a,
-        links: c.links[b],
+        links: r.links,
         moved: true,
-        wakes: sleeps(c, b),
+        wakes: r.sleeps,
         round: false,
         heads: none,
         listed: sets::only(k),
         lists: lists,
-        heard: c.heard[b],
+        heard: r.heard,
     }
 }
 
 // "All queues have a NOTSPT message at their heads: do a round."
-fn take_round(store: &mut [u32], c: Turn, a: usize, b: usize) -> Arrival
-    requires { ⌜ (length (now store) ≡ 9216) × (b < 16) ⌝ }
-    ensures { λ h. ⌜ took (now (store .exit)) h ≡ tookRound c a b (now (store .entry)) ⌝ }
+fn take_round(store: &mut [u32], r: Receiver, a: usize) -> Arrival
+    requires { ⌜ (length (now store) ≡ 9216) × (r .own < 16) ⌝ }
+    ensures { λ h. ⌜ took (now (store .exit)) h ≡ roundTo r a (now (store .entry)) ⌝ }
 {
-    let links = c.links[b];
-    let g = mail::gather(store, b, links);
+    let g = mail::gather(store, r.own, r.links);
     let heads = g.heads;
     let lists = g.lists;
     Arrival {
-        own: b,
+        own: r.own,
         from: a,
-        links: links,
+        links: r.links,
         moved: true,
-        wakes: sleeps(c, b),
+        wakes: r.sleeps,
         round: true,
         heads: heads,
         listed: g.listed,
@@ -167,43 +186,41 @@ fn take_round(store: &mut [u32], c: Turn, a: usize, b: usize) -> Arrival
     }
 }
 
-// The word x has joined the queue of the wire from a to b, which was empty.
-fn take_first(store: &mut [u32], c: Turn, a: usize, b: usize, x: u32) -> Arrival
-    requires { ⌜ (length (now store) ≡ 9216) × ((a < 16) × (b < 16)) ⌝ }
-    ensures { λ h. ⌜ took (now (store .exit)) h ≡ tookFirst c a b x (now (store .entry)) ⌝ }
+// The word x has joined the queue of the wire from a, which was empty.
+fn take_first(store: &mut [u32], r: Receiver, a: usize, x: u32) -> Arrival
+    requires { ⌜ (length (now store) ≡ 9216) × ((a < 16) × (r .own < 16)) ⌝ }
+    ensures { λ h. ⌜ took (now (store .exit)) h ≡ firstTo r a x (now (store .entry)) ⌝ }
 {
     if wires::is_list(x) {
-        wires::take(store, a * 16 + b);
-        return one_list(c, a, b, x);
+        wires::take(store, a * 16 + r.own);
+        return one_list(r, a, x);
     }
-    let heard = c.heard[b] | sets::only(a);
-    if heard == c.links[b] {
-        return take_round(store, c, a, b);
+    let heard = r.heard | sets::only(a);
+    if heard == r.links {
+        return take_round(store, r, a);
     }
-    let wakes = sleeps(c, b);
-    quiet(c, a, b, true, wakes, heard)
+    quiet(r, a, true, r.sleeps, heard)
 }
 
 // "A delivery takes the oldest message off a wire."
-fn take_oldest(store: &mut [u32], c: Turn, a: usize, b: usize) -> Arrival
-    requires { ⌜ (length (now store) ≡ 9216) × ((a < 16) × (b < 16)) ⌝ }
-    ensures { λ h. ⌜ took (now (store .exit)) h ≡ delivered c a b (now (store .entry)) ⌝ }
+fn take_oldest(store: &mut [u32], r: Receiver, a: usize) -> Arrival
+    requires { ⌜ (length (now store) ≡ 9216) × ((a < 16) × (r .own < 16)) ⌝ }
+    ensures { λ h. ⌜ took (now (store .exit)) h ≡ deliveredTo r a (now (store .entry)) ⌝ }
 {
-    let i = a * 16 + b;
-    let heard = c.heard[b];
+    let i = a * 16 + r.own;
     if wires::under_way(store, i) == 0 {
-        return quiet(c, a, b, false, false, heard);
+        return quiet(r, a, false, false, r.heard);
     }
-    if sets::is_in(c.stopped, b) {
+    if r.stopped {
         wires::skip(store, i);
-        return quiet(c, a, b, true, false, heard);
+        return quiet(r, a, true, false, r.heard);
     }
     if wires::queued(store, i) == 0 {
         let x = wires::arrive(store, i);
-        return take_first(store, c, a, b, x);
+        return take_first(store, r, a, x);
     }
     wires::arrive(store, i);
-    quiet(c, a, b, true, false, heard)
+    quiet(r, a, true, false, r.heard)
 }
 
 // "a = b starts box a. Otherwise the oldest message on the wire from a to b is delivered."
@@ -212,17 +229,14 @@ fn take_pair(store: &mut [u32], p: Pair, c: Turn) -> Arrival
     ensures { λ h. ⌜ took (now (store .exit)) h ≡ tookPair c p (now (store .entry)) ⌝ }
 {
     if p.some {
-        let a = p.from;
-        let b = p.to;
-        if a == b {
-            let wakes = sleeps(c, b);
-            let heard = c.heard[b];
-            return quiet(c, b, b, false, wakes, heard);
+        let r = receiver_of(c, p.to);
+        if p.from == p.to {
+            return quiet(r, p.to, false, r.sleeps, r.heard);
         }
-        return take_oldest(store, c, a, b);
+        return take_oldest(store, r, p.from);
     }
-    let heard = c.heard[0];
-    quiet(c, 0, 0, false, false, heard)
+    let r = receiver_of(c, 0);
+    quiet(r, 0, false, false, r.heard)
 }
 
 pub fn take(store: &mut [u32], list: &[u8], c: Turn) -> Arrival
@@ -235,37 +249,54 @@ pub fn take(store: &mut [u32], list: &[u8], c: Turn) -> Arrival
 
 // ---- what goes out
 
-// All that goes to box j, where it is a link.
-fn post_to(store: &mut [u32], o: Departure, j: usize, links: u16, c: Counts) -> Counts
-    requires { ⌜ (length (now store) ≡ 9216) × (j < 16) ⌝ }
-    ensures { λ r. ⌜ posted (now (store .exit)) r ≡ cond (mem j links) (postLink (wireOf (o .own % 16) j) (letter o j) (o .neighbors) (posted (now (store .entry)) c)) (posted (now (store .entry)) c) ⌝ }
+// All that goes from box b to box j, where it is a link.
+fn post_to(
+    store: &mut [u32],
+    links: u16,
+    b: usize,
+    j: usize,
+    l: Letter,
+    known: &[u16; 16],
+    c: Counts,
+) -> Counts
+    requires { ⌜ (length (now store) ≡ 9216) × ((b < 16) × (j < 16)) ⌝ }
+    ensures { λ r. ⌜ posted (now (store .exit)) r ≡ cond (mem j links) (postLink (wireOf b j) l (now (known .entry)) (posted (now (store .entry)) c)) (posted (now (store .entry)) c) ⌝ }
 {
     if sets::is_in(links, j) {
-        let b = o.own % 16;
-        let known = o.neighbors;
-        let l = Letter {
-            wakes: o.wakes,
-            own: sets::only(b),
-            round: o.round,
-            origins: o.origins[j],
-            set: o.sets[j],
-        };
         return mail::post_link(store, b * 16 + j, l, known, c);
     }
     c
 }
 
-// To every link, ascending. A box that neither wakes nor does a round sends nothing.
+// To every link, ascending.
+fn post_each(store: &mut [u32], o: Departure, links: u16, c: Counts) -> Counts
+    requires { ⌜ length (now store) ≡ 9216 ⌝ }
+    ensures { λ r. ⌜ posted (now (store .exit)) r ≡ postTo o links 16 (posted (now (store .entry)) c) ⌝ }
+{
+    let b = o.own % 16;
+    let own = sets::only(b);
+    let known = o.neighbors;
+    let mut q = c;
+    for j in 0..16 {
+        let l = Letter {
+            wakes: o.wakes,
+            own: own,
+            round: o.round,
+            origins: o.origins[j],
+            set: o.sets[j],
+        };
+        q = post_to(store, links, b, j, l, &known, q);
+    }
+    q
+}
+
+// A box that neither wakes nor does a round sends nothing: most turns end here, with no table touched.
 pub fn post_all(store: &mut [u32], o: Departure, links: u16, c: Counts) -> Counts
     requires { ⌜ length (now store) ≡ 9216 ⌝ }
     ensures { λ r. ⌜ posted (now (store .exit)) r ≡ postTo o links 16 (posted (now (store .entry)) c) ⌝ }
 {
-    if sends(o) {
-        let mut q = c;
-        for j in 0..16 {
-            q = post_to(store, o, j, links, q);
-        }
-        return q;
+    if sends(o.wakes, o.round) {
+        return post_each(store, o, links, c);
     }
     c
 }
@@ -273,44 +304,41 @@ pub fn post_all(store: &mut [u32], o: Departure, links: u16, c: Counts) -> Count
 // ---- what is carried on
 
 // Whether anything goes out.
-fn sends(o: Departure) -> bool
-    ensures { λ r. ⌜ r ≡ sending o ⌝ }
+fn sends(wakes: bool, round: bool) -> bool
+    ensures { λ r. ⌜ r ≡ wakes || round ⌝ }
 {
-    if o.wakes {
+    if wakes {
         return true;
     }
-    o.round
+    round
 }
 
 // The box has stopped in this turn.
-fn stopping(o: Departure) -> bool
-    ensures { λ r. ⌜ r ≡ ends o ⌝ }
+fn stopping(stops: bool, wakes: bool, round: bool) -> bool
+    ensures { λ r. ⌜ r ≡ stops && (wakes || round) ⌝ }
 {
-    if o.stops {
-        return sends(o);
+    if stops {
+        return sends(wakes, round);
     }
     false
 }
 
 // "A stopping box empties its queues."
-fn clear_ended(store: &mut [u32], o: Departure, links: u16)
-    requires { ⌜ length (now store) ≡ 9216 ⌝ }
-    ensures { λ _. ⌜ now (store .exit) ≡ cond (ends o) (clearTo (o .own % 16) links 16 (now (store .entry))) (now (store .entry)) ⌝ }
+fn clear_ended(store: &mut [u32], ended: bool, b: usize, links: u16)
+    requires { ⌜ (length (now store) ≡ 9216) × (b < 16) ⌝ }
+    ensures { λ _. ⌜ now (store .exit) ≡ cond ended (clearTo b links 16 (now (store .entry))) (now (store .entry)) ⌝ }
 {
-    if stopping(o) {
-        let b = o.own % 16;
+    if ended {
         mail::clear_all(store, b, links);
     }
 }
 
-// The receivers that the sender still has messages under way to: not this one, once its last message was moved.
-fn less_busy(store: &[u32], o: Departure, to: u16) -> u16
-    requires { ⌜ length (now store) ≡ 9216 ⌝ }
-    ensures { λ r. ⌜ r ≡ lessOf (now (store .entry)) o to ⌝ }
+// The receivers that the sender still has messages under way to: not b, once its last message was moved.
+fn less_busy(store: &[u32], moved: bool, a: usize, b: usize, to: u16) -> u16
+    requires { ⌜ (length (now store) ≡ 9216) × ((a < 16) × (b < 16)) ⌝ }
+    ensures { λ r. ⌜ r ≡ lessOf (now (store .entry)) moved a b to ⌝ }
 {
-    let a = o.from % 16;
-    let b = o.own % 16;
-    if o.moved {
+    if moved {
         if wires::under_way(store, a * 16 + b) == 0 {
             return sets::minus(to, sets::only(b));
         }
@@ -319,10 +347,10 @@ fn less_busy(store: &[u32], o: Departure, to: u16) -> u16
 }
 
 // A box that sends has messages under way to each of its links.
-fn more_busy(o: Departure, links: u16, to: u16) -> u16
-    ensures { λ r. ⌜ r ≡ moreOf o links to ⌝ }
+fn more_busy(sends: bool, links: u16, to: u16) -> u16
+    ensures { λ r. ⌜ r ≡ cond sends (bitOr to links) to ⌝ }
 {
-    if sends(o) {
+    if sends {
         return to | links;
     }
     to
@@ -353,75 +381,63 @@ fn moved_after(n: u32, moved: bool) -> u32
     n
 }
 
-fn awake_after(awake: u16, o: Departure) -> u16
-    ensures { λ r. ⌜ r ≡ awakeAfter awake o ⌝ }
+fn awake_after(awake: u16, b: usize, ended: bool, wakes: bool) -> u16
+    requires { ⌜ b < 16 ⌝ }
+    ensures { λ r. ⌜ r ≡ cond ended (without awake (2 ^ b)) (cond wakes (bitOr awake (2 ^ b)) awake) ⌝ }
 {
-    let b = o.own % 16;
-    if stopping(o) {
+    if ended {
         return sets::minus(awake, sets::only(b));
     }
-    if o.wakes {
+    if wakes {
         return awake | sets::only(b);
     }
     awake
 }
 
-fn stopped_after(stopped: u16, o: Departure) -> u16
-    ensures { λ r. ⌜ r ≡ stoppedAfter stopped o ⌝ }
+fn stopped_after(stopped: u16, b: usize, ended: bool) -> u16
+    requires { ⌜ b < 16 ⌝ }
+    ensures { λ r. ⌜ r ≡ cond ended (bitOr stopped (2 ^ b)) stopped ⌝ }
 {
-    let b = o.own % 16;
-    if stopping(o) {
+    if ended {
         return stopped | sets::only(b);
     }
     stopped
 }
 
-fn heard_after(o: Departure) -> u16
-    ensures { λ r. ⌜ r ≡ heardAfter o ⌝ }
+fn heard_after(ended: bool, heard: u16) -> u16
+    ensures { λ r. ⌜ r ≡ cond ended 0 heard ⌝ }
 {
-    if stopping(o) {
-        return 0;
-    }
-    o.heard
+    if ended { 0 } else { heard }
 }
 
-// The state is carried on where it stands: `to` is what the sender still has under way.
-fn turn_after(c: Turn, o: Departure, to: u16, p: Counts) -> Turn
-    requires { ⌜ 1 ≤ c .left ⌝ }
-    ensures { λ r. ⌜ r ≡ turnAfter c o to (p .sent) (p .full) ⌝ }
-{
-    let a = o.from % 16;
-    let b = o.own % 16;
-    let links = c.links[b];
-    let mut n = c;
-    n.left = left_after(c.left, c.at, c.pairs, o.moved);
-    n.at = at_after(c.at, c.pairs);
-    n.sent = p.sent;
-    n.moved = moved_after(c.moved, o.moved);
-    n.full = p.full;
-    n.awake = awake_after(c.awake, o);
-    n.stopped = stopped_after(c.stopped, o);
-    n.heard[b] = heard_after(o);
-    n.busy[a] = to;
-    n.busy[b] = more_busy(o, links, n.busy[b]);
-    n
-}
-
+// What goes out, and the next turn's state, which is this one's where it stands.
 pub fn put(store: &mut [u32], o: Departure, c: Turn) -> Turn
     requires { ⌜ (length (now store) ≡ 9216) × (1 ≤ c .left) ⌝ }
     ensures { λ r. ⌜ (r ≡ putDef (now (store .entry)) o c .turn) × (now (store .exit) ≡ putDef (now (store .entry)) o c .store) ⌝ }
 {
     let a = o.from % 16;
     let b = o.own % 16;
-    let links = c.links[b];
-    let to = less_busy(store, o, c.busy[a]);
-    clear_ended(store, o, links);
+    let ended = stopping(o.stops, o.wakes, o.round);
+    let mut n = c;
+    let links = n.links[b];
+    let to = less_busy(store, o.moved, a, b, n.busy[a]);
+    clear_ended(store, ended, b, links);
     let first = Counts {
         sent: c.sent,
         full: c.full,
     };
     let p = post_all(store, o, links, first);
-    turn_after(c, o, to, p)
+    n.left = left_after(c.left, c.at, c.pairs, o.moved);
+    n.at = at_after(c.at, c.pairs);
+    n.sent = p.sent;
+    n.moved = moved_after(c.moved, o.moved);
+    n.full = p.full;
+    n.awake = awake_after(c.awake, b, ended, o.wakes);
+    n.stopped = stopped_after(c.stopped, b, ended);
+    n.heard[b] = heard_after(ended, o.heard);
+    n.busy[a] = to;
+    n.busy[b] = more_busy(sends(o.wakes, o.round), links, n.busy[b]);
+    n
 }
 
 // ---- turns

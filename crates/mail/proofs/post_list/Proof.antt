@@ -7,12 +7,6 @@ use Rattle.mail.proofs.post_list.Tie as tie
 is-in-requires : tie.Need-is-in-requires
 is-in-requires c κs = search needs
 
-mul-list-word : tie.Need-mul-list-word
-mul-list-word c = search needs
-
-array-read-list-word : tie.Need-array-read-list-word
-array-read-list-word c = search needs
-
 list-word-requires : tie.Need-list-word-requires
 list-word-requires c κs = search needs
 
@@ -23,7 +17,7 @@ same-length : tie.Need-same-length
 same-length c = search needs
 
 returns : tie.Need-returns
-returns c = list-yes _ _ _ _ _ (c .before .before .before .before .before .before .before .before .args .t5) _ _ (c .before .before .before .before .before .before .is-in .ensures) (c .before .before .before .before .before .if1 .taken) (c .before .before .before .list-word .ensures) (c .before .before .post .ensures)
+returns c = list-yes _ _ _ _ _ (c .before .before .before .before .before .before .before .before .args .list) _ _ (c .before .before .before .before .before .before .is-in .ensures) (c .before .before .before .before .before .if1 .taken) (c .before .before .before .list-word .ensures) (c .before .before .post .ensures)
 
 returns-2 : tie.Need-returns-2
 returns-2 c = picked-no _ _ _ _ (c .before .is-in .ensures) (c .if1 .left)
@@ -31,12 +25,4 @@ returns-2 c = picked-no _ _ _ _ (c .before .is-in .ensures) (c .if1 .left)
 pub post-list-spec : {M : Type 1} → statement M
 post-list-spec =
     tie.close
-    (tie.spec
-    is-in-requires
-    mul-list-word
-    array-read-list-word
-    list-word-requires
-    post-requires
-    same-length
-    returns
-    returns-2)
+    (tie.spec is-in-requires list-word-requires post-requires same-length returns returns-2)

@@ -2,7 +2,7 @@
 use borrow.Author.Needs.{needs}
 use native.Mathlib.Omega.{arith}
 use Prim.Native.Nat.{_≤_, _-_}
-use mathlib.Core.Path.{_≡_, refl, ap, _∙_}
+use mathlib.Core.Path.{_≡_}
 use lib.ListN.{length}
 use Rattle.rules.specs.Sets.{forEach}
 use Rattle.mail.specs.Letter.{posted}
@@ -25,6 +25,12 @@ loop-holds : tie.Need-loop-holds Inv-loop μ-loop
 unfolding postLists forEach
 loop-holds c = search needs
 
+mul-post-list : tie.Need-mul-post-list Inv-loop μ-loop
+mul-post-list c = search needs
+
+element-copy-out-post-list : tie.Need-element-copy-out-post-list Inv-loop μ-loop
+element-copy-out-post-list c = search needs
+
 post-list-requires : tie.Need-post-list-requires Inv-loop μ-loop
 post-list-requires c κs = search needs
 
@@ -36,7 +42,7 @@ loop-less c = search needs
 
 loop-again : tie.Need-loop-again Inv-loop μ-loop
 unfolding postLists
-loop-again c = (search needs, (search needs, each-next _ _ _ _ _ _ (c .before .before .before .before .before .loop .inv .1 .1) (c .before .before .post-list .ensures)))
+loop-again c = (search needs, (search needs, each-next _ _ _ _ _ _ (c .before .before .before .before .before .before .loop .inv .1 .1) (c .before .before .post-list .ensures)))
 
 same-length : tie.Need-same-length Inv-loop μ-loop
 same-length c = search needs
@@ -52,6 +58,8 @@ post-lists-spec =
     μ-loop
     returns
     loop-holds
+    mul-post-list
+    element-copy-out-post-list
     post-list-requires
     add-k
     loop-less

@@ -20,10 +20,10 @@ minus-requires : tie.Need-minus-requires
 minus-requires c κs = search needs
 
 returns : tie.Need-returns
-returns c = less-none (c .before .before .before .before .before .before .before .before .args .store .now) (c .before .before .before .before .before .before .before .before .args .o) _ _ _ _ (c .before .before .before .before .if1 .taken) (c .before .before .before .under-way .ensures .answer) (c .before .before .if2 .taken) (c .before .only .ensures) (c .minus .ensures)
+returns c = less-none (c .before .before .before .before .before .before .args .store .now) _ (c .before .before .before .before .before .before .args .a) (c .before .before .before .before .before .before .args .b) _ _ _ _ (c .before .before .before .before .if1 .taken) (c .before .before .before .under-way .ensures .answer) (c .before .before .if2 .taken) (c .before .only .ensures) (c .minus .ensures)
 
 returns-2 : tie.Need-returns-2
-returns-2 c = less-some (c .before .before .before .before .before .before .args .store .now) (c .before .before .before .before .before .before .args .o) _ _ (c .before .before .if1 .taken) (c .before .under-way .ensures .answer) (c .if2 .left)
+returns-2 c = less-some (c .before .before .before .before .args .store .now) _ (c .before .before .before .before .args .a) (c .before .before .before .before .args .b) _ _ (c .before .before .if1 .taken) (c .before .under-way .ensures .answer) (c .if2 .left)
 
 returns-3 : tie.Need-returns-3
 returns-3 c = search needs

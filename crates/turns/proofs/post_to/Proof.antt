@@ -1,27 +1,11 @@
 -- `turns::post_to` meets its contract. Assumes nothing.
 use borrow.Author.Needs.{needs}
 use Rattle.mail.proofs.Laws.{picked-yes, picked-no}
-use Rattle.turns.proofs.Laws.{letter-is}
 use Rattle.turns.proofs.post_to.Statement.{statement}
 use Rattle.turns.proofs.post_to.Tie as tie
 
 is-in-requires : tie.Need-is-in-requires
 is-in-requires c κs = search needs
-
-only-requires : tie.Need-only-requires
-only-requires c κs = search needs
-
-mul-t11 : tie.Need-mul-t11
-mul-t11 c = search needs
-
-element-copy-out-t17 : tie.Need-element-copy-out-t17
-element-copy-out-t17 c = search needs
-
-mul-t18 : tie.Need-mul-t18
-mul-t18 c = search needs
-
-element-copy-out-t21 : tie.Need-element-copy-out-t21
-element-copy-out-t21 c = search needs
 
 mul-post-link : tie.Need-mul-post-link
 mul-post-link c = search needs
@@ -36,7 +20,7 @@ same-length : tie.Need-same-length
 same-length c = search needs
 
 returns : tie.Need-returns
-returns c = picked-yes _ _ _ _ _ (c .before .before .before .before .before .before .before .before .before .is-in .ensures) (c .before .before .before .before .before .before .before .before .if1 .taken) (letter-is (c .before .before .before .before .before .before .before .before .before .before .before .args .t2) _ (c .before .before .before .before .before .before .before .before .before .before .before .args .j) _ _ _ (c .before .before .before .before .before .before .only .ensures) (c .before .before .post-link .ensures))
+returns c = picked-yes _ _ _ _ _ (c .before .before .before .before .before .is-in .ensures) (c .before .before .before .before .if1 .taken) (c .before .before .post-link .ensures)
 
 returns-2 : tie.Need-returns-2
 returns-2 c = picked-no _ _ _ _ (c .before .is-in .ensures) (c .if1 .left)
@@ -46,11 +30,6 @@ post-to-spec =
     tie.close
     (tie.spec
     is-in-requires
-    only-requires
-    mul-t11
-    element-copy-out-t17
-    mul-t18
-    element-copy-out-t21
     mul-post-link
     add-post-link
     post-link-requires

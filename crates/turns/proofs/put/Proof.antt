@@ -1,8 +1,11 @@
--- `turns::put` meets its contract. Assumes nothing.
+-- `turns::put` meets its contract: each part of the next turn's state is what the turn's definition has there. Assumes nothing.
 use borrow.Author.Needs.{needs}
 use Rattle.turns.proofs.Laws.{put-is}
 use Rattle.turns.proofs.put.Statement.{statement}
 use Rattle.turns.proofs.put.Tie as tie
+
+stopping-requires : tie.Need-stopping-requires
+stopping-requires c κs = search needs
 
 mul-links : tie.Need-mul-links
 mul-links c = search needs
@@ -25,19 +28,68 @@ clear-ended-requires c κs = search needs
 post-all-requires : tie.Need-post-all-requires
 post-all-requires c κs = search needs
 
-turn-after-requires : tie.Need-turn-after-requires
-turn-after-requires c κs = search needs
+left-after-requires : tie.Need-left-after-requires
+left-after-requires c κs = search needs
+
+at-after-requires : tie.Need-at-after-requires
+at-after-requires c κs = search needs
+
+moved-after-requires : tie.Need-moved-after-requires
+moved-after-requires c κs = search needs
+
+awake-after-requires : tie.Need-awake-after-requires
+awake-after-requires c κs = search needs
+
+stopped-after-requires : tie.Need-stopped-after-requires
+stopped-after-requires c κs = search needs
+
+heard-after-requires : tie.Need-heard-after-requires
+heard-after-requires c κs = search needs
+
+mul-n : tie.Need-mul-n
+mul-n c = search needs
+
+element-write-n : tie.Need-element-write-n
+element-write-n c = search needs
+
+mul-n-2 : tie.Need-mul-n-2
+mul-n-2 c = search needs
+
+element-write-n-2 : tie.Need-element-write-n-2
+element-write-n-2 c = search needs
+
+sends-requires : tie.Need-sends-requires
+sends-requires c κs = search needs
+
+mul-more-busy : tie.Need-mul-more-busy
+mul-more-busy c = search needs
+
+element-copy-out-more-busy : tie.Need-element-copy-out-more-busy
+element-copy-out-more-busy c = search needs
+
+more-busy-requires : tie.Need-more-busy-requires
+more-busy-requires c κs = search needs
+
+mul-n-3 : tie.Need-mul-n-3
+mul-n-3 c = search needs
+
+element-write-n-3 : tie.Need-element-write-n-3
+element-write-n-3 c = search needs
 
 same-length : tie.Need-same-length
 same-length c = search needs
 
 returns : tie.Need-returns
-returns c = put-is _ _ _ (c .before .before .before .before .before .before .before .before .before .before .before .before .before .before .before .before .args .o) (c .before .before .before .before .before .before .before .before .before .before .before .before .before .before .before .before .args .t3) _ _ (c .before .before .before .post-all .result) (c .before .before .before .before .before .before .before .before .before .less-busy .ensures) (c .before .before .before .before .before .before .before .clear-ended .ensures) (c .before .before .before .post-all .ensures) (c .turn-after .ensures)
+returns c =
+    put-is _ _ _ (c .before .before .before .before .before .before .before .before .before .before .before .before .before .before .before .before .before .before .before .before .before .before .before .before .before .args .o) (c .before .before .before .before .before .before .before .before .before .before .before .before .before .before .before .before .before .before .before .before .before .before .before .before .before .args .c) (c .before .before .before .before .before .before .before .before .before .before .before .post-all .result) (c .before .before .before .before .before .before .before .before .before .before .before .before .before .before .before .before .before .less-busy .result) (c .before .before .before .before .before .before .before .before .before .before .before .before .before .before .before .before .before .before .before .before .before .stopping .result) (c .before .before .sends .result) (c .before .before .before .before .before .before .before .before .before .before .before .before .before .before .before .before .before .less-busy .ensures) (c .before .before .before .before .before .before .before .before .before .before .before .before .before .before .before .before .before .before .before .before .before .stopping .ensures)
+    (c .before .before .sends .ensures) (c .before .before .before .before .before .before .before .before .before .before .before .before .before .before .before .clear-ended .ensures) (c .before .before .before .before .before .before .before .before .before .before .before .post-all .ensures) _ _ _ _ _ _ _ (c .before .before .before .before .before .before .before .before .left-after .ensures) (c .before .before .before .before .before .before .before .at-after .ensures) (c .before .before .before .before .before .before .moved-after .ensures)
+    (c .before .before .before .before .before .awake-after .ensures) (c .before .before .before .before .stopped-after .ensures) (c .before .before .before .heard-after .ensures) (c .more-busy .ensures)
 
 pub put-spec : {M : Type 1} → statement M
 put-spec =
     tie.close
     (tie.spec
+    stopping-requires
     mul-links
     element-copy-out-links
     mul-less-busy
@@ -45,6 +97,21 @@ put-spec =
     less-busy-requires
     clear-ended-requires
     post-all-requires
-    turn-after-requires
+    left-after-requires
+    at-after-requires
+    moved-after-requires
+    awake-after-requires
+    stopped-after-requires
+    heard-after-requires
+    mul-n
+    element-write-n
+    mul-n-2
+    element-write-n-2
+    sends-requires
+    mul-more-busy
+    element-copy-out-more-busy
+    more-busy-requires
+    mul-n-3
+    element-write-n-3
     same-length
     returns)

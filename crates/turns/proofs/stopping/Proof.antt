@@ -1,6 +1,5 @@
 -- `turns::stopping` meets its contract. Assumes nothing.
 use borrow.Author.Needs.{needs}
-use Rattle.turns.proofs.Laws.{stops-by, stops-not}
 use Rattle.turns.proofs.stopping.Statement.{statement}
 use Rattle.turns.proofs.stopping.Tie as tie
 
@@ -8,10 +7,10 @@ sends-requires : tie.Need-sends-requires
 sends-requires c κs = search needs
 
 returns : tie.Need-returns
-returns c = stops-by (c .before .before .args .o) _ (c .before .if1 .taken) (c .sends .ensures)
+returns c = rw (c .before .if1 .taken) (c .sends .ensures)
 
 returns-2 : tie.Need-returns-2
-returns-2 c = stops-not (c .before .args .o) (c .if1 .left)
+returns-2 c = search needs
 
 pub stopping-spec : {M : Type 1} → statement M
 stopping-spec = tie.close (tie.spec sends-requires returns returns-2)

@@ -23,22 +23,10 @@ same-length : tie.Need-same-length
 same-length c = search needs
 
 returns : tie.Need-returns
-returns c = first-list (c .before .before .before .before .before .before .before .before .args .t2) (c .before .before .before .before .before .before .before .before .args .a) (c .before .before .before .before .before .before .before .before .args .b) (c .before .before .before .before .before .before .before .before .args .x) _ _ (c .before .before .before .before .before .before .is-list .ensures) _ _ (c .before .before .before .before .before .if1 .taken) (c .before .before .before .take .ensures .words) (c .one-list .ensures)
-
-mul-heard : tie.Need-mul-heard
-mul-heard c = search needs
-
-element-copy-out-heard : tie.Need-element-copy-out-heard
-element-copy-out-heard c = search needs
+returns c = first-list (c .before .before .before .before .before .before .before .before .before .args .r) (c .before .before .before .before .before .before .before .before .before .args .a) (c .before .before .before .before .before .before .before .before .before .args .x) _ _ (c .before .before .before .before .before .before .before .is-list .ensures) _ _ (c .before .before .before .before .before .before .if1 .taken) (c .before .before .before .take .ensures .words) (c .one-list .ensures)
 
 only-requires : tie.Need-only-requires
 only-requires c κs = search needs
-
-mul-if2 : tie.Need-mul-if2
-mul-if2 c = search needs
-
-element-copy-out-if2 : tie.Need-element-copy-out-if2
-element-copy-out-if2 c = search needs
 
 take-round-requires : tie.Need-take-round-requires
 take-round-requires c κs = search needs
@@ -47,18 +35,13 @@ same-length-2 : tie.Need-same-length-2
 same-length-2 c = search needs
 
 returns-2 : tie.Need-returns-2
-returns-2 c = first-round (c .before .before .before .before .before .before .before .before .before .before .before .args .t2) (c .before .before .before .before .before .before .before .before .before .before .before .args .a) (c .before .before .before .before .before .before .before .before .before .before .before .args .b) (c .before .before .before .before .before .before .before .before .before .before .before .args .x) _ _ (c .before .before .before .before .before .before .before .before .before .is-list .ensures) _ _ (c .before .before .before .before .before .before .before .before .if1 .left) (c .before .before .before .before .before .before .only .ensures) (c .before .before .before .before .if2 .taken) (c .before .before .take-round .ensures)
-
-sleeps-requires : tie.Need-sleeps-requires
-sleeps-requires c κs = search needs
+returns-2 c = first-round (c .before .before .before .before .before .before .before .before .before .before .before .args .r) (c .before .before .before .before .before .before .before .before .before .before .before .args .a) (c .before .before .before .before .before .before .before .before .before .before .before .args .x) _ _ (c .before .before .before .before .before .before .before .before .before .is-list .ensures) _ _ (c .before .before .before .before .before .before .before .before .if1 .left) (c .before .before .before .before .before .before .before .only .ensures) (c .before .before .before .before .if2 .taken) (c .before .before .take-round .ensures)
 
 quiet-requires : tie.Need-quiet-requires
 quiet-requires c κs = search needs
 
 returns-3 : tie.Need-returns-3
-returns-3 c =
-    first-quiet (c .before .before .before .before .before .before .before .before .before .args .t2) (c .before .before .before .before .before .before .before .before .before .args .a) (c .before .before .before .before .before .before .before .before .before .args .b) (c .before .before .before .before .before .before .before .before .before .args .x) _ _ (c .before .before .before .before .before .before .before .is-list .ensures) _ _ _ (c .before .before .before .before .before .before .if1 .left) (c .before .before .before .before .only .ensures) (c .before .before .if2 .left) (c .before .sleeps .ensures)
-    (c .quiet .ensures)
+returns-3 c = first-quiet (c .before .before .before .before .before .before .before .before .args .r) (c .before .before .before .before .before .before .before .before .args .a) (c .before .before .before .before .before .before .before .before .args .x) _ _ (c .before .before .before .before .before .before .is-list .ensures) _ _ (c .before .before .before .before .before .if1 .left) (c .before .before .before .before .only .ensures) (c .before .if2 .left) (c .quiet .ensures)
 
 pub take-first-spec : {M : Type 1} → statement M
 take-first-spec =
@@ -71,14 +54,9 @@ take-first-spec =
     one-list-requires
     same-length
     returns
-    mul-heard
-    element-copy-out-heard
     only-requires
-    mul-if2
-    element-copy-out-if2
     take-round-requires
     same-length-2
     returns-2
-    sleeps-requires
     quiet-requires
     returns-3)

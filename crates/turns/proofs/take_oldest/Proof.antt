@@ -11,12 +11,6 @@ mul-i c = search needs
 add-i : tie.Need-add-i
 add-i c = search needs
 
-mul-heard : tie.Need-mul-heard
-mul-heard c = search needs
-
-element-copy-out-heard : tie.Need-element-copy-out-heard
-element-copy-out-heard c = search needs
-
 under-way-requires : tie.Need-under-way-requires
 under-way-requires c κs = search needs
 
@@ -27,10 +21,7 @@ same-length : tie.Need-same-length
 same-length c = search needs
 
 returns : tie.Need-returns
-returns c = way-none (c .before .before .before .before .before .before .args .t2) (c .before .before .before .before .before .before .args .a) (c .before .before .before .before .before .before .args .b) (c .before .before .before .before .before .before .args .store .now) _ (c .before .before .under-way .ensures .answer) _ (c .before .if1 .taken) (c .quiet .ensures)
-
-is-in-requires : tie.Need-is-in-requires
-is-in-requires c κs = search needs
+returns c = way-none (c .before .before .before .before .before .before .args .r) (c .before .before .before .before .before .before .args .a) (c .before .before .before .before .before .before .args .store .now) _ (c .before .before .under-way .ensures .answer) _ (c .before .if1 .taken) (c .quiet .ensures)
 
 skip-requires : tie.Need-skip-requires
 skip-requires c κs = search needs
@@ -43,7 +34,7 @@ same-length-2 c = search needs
 
 returns-2 : tie.Need-returns-2
 returns-2 c =
-    way-dropped (c .before .before .before .before .before .before .before .before .before .before .before .before .args .t2) (c .before .before .before .before .before .before .before .before .before .before .before .before .args .a) (c .before .before .before .before .before .before .before .before .before .before .before .before .args .b) (c .before .before .before .before .before .before .before .before .before .before .before .before .args .store .now) _ (c .before .before .before .before .before .before .before .before .under-way .ensures .answer) (c .before .before .before .before .before .before .before .if1 .left) _ (c .before .before .before .before .before .before .is-in .ensures) _ _ (c .before .before .before .before .before .if2 .taken)
+    way-dropped (c .before .before .before .before .before .before .before .before .before .before .before .args .r) (c .before .before .before .before .before .before .before .before .before .before .before .args .a) (c .before .before .before .before .before .before .before .before .before .before .before .args .store .now) _ (c .before .before .before .before .before .before .before .under-way .ensures .answer) (c .before .before .before .before .before .before .if1 .left) _ _ (c .before .before .before .before .before .if2 .taken)
     (c .before .before .before .skip .ensures .words) (c .quiet2 .ensures)
 
 queued-requires : tie.Need-queued-requires
@@ -60,7 +51,7 @@ same-length-3 c = search needs
 
 returns-3 : tie.Need-returns-3
 returns-3 c =
-    way-first (c .before .before .before .before .before .before .before .before .before .before .before .before .before .before .before .before .before .before .args .t2) (c .before .before .before .before .before .before .before .before .before .before .before .before .before .before .before .before .before .before .args .a) (c .before .before .before .before .before .before .before .before .before .before .before .before .before .before .before .before .before .before .args .b) (c .before .before .before .before .before .before .before .before .before .before .before .before .before .before .before .before .before .before .args .store .now) _ (c .before .before .before .before .before .before .before .before .before .before .before .before .before .before .under-way .ensures .answer) (c .before .before .before .before .before .before .before .before .before .before .before .before .before .if1 .left) _ (c .before .before .before .before .before .before .before .before .before .before .before .before .is-in .ensures) (c .before .before .before .before .before .before .before .before .before .before .before .if2 .left) _ (c .before .before .before .before .before .before .before .before .before .queued .ensures .answer)
+    way-first (c .before .before .before .before .before .before .before .before .before .before .before .before .before .before .before .before .before .args .r) (c .before .before .before .before .before .before .before .before .before .before .before .before .before .before .before .before .before .args .a) (c .before .before .before .before .before .before .before .before .before .before .before .before .before .before .before .before .before .args .store .now) _ (c .before .before .before .before .before .before .before .before .before .before .before .before .before .under-way .ensures .answer) (c .before .before .before .before .before .before .before .before .before .before .before .before .if1 .left) (c .before .before .before .before .before .before .before .before .before .before .before .if2 .left) _ (c .before .before .before .before .before .before .before .before .before .queued .ensures .answer)
     _ _ _ (c .before .before .before .before .before .before .before .before .if3 .taken) (c .before .before .before .before .before .before .arrive .ensures .answer) (c .before .before .before .before .before .before .arrive .ensures .words) (c .before .before .take-first .ensures)
 
 arrive-requires-2 : tie.Need-arrive-requires-2
@@ -74,7 +65,7 @@ same-length-4 c = search needs
 
 returns-4 : tie.Need-returns-4
 returns-4 c =
-    way-joins (c .before .before .before .before .before .before .before .before .before .before .before .before .before .before .before .args .t2) (c .before .before .before .before .before .before .before .before .before .before .before .before .before .before .before .args .a) (c .before .before .before .before .before .before .before .before .before .before .before .before .before .before .before .args .b) (c .before .before .before .before .before .before .before .before .before .before .before .before .before .before .before .args .store .now) _ (c .before .before .before .before .before .before .before .before .before .before .before .under-way .ensures .answer) (c .before .before .before .before .before .before .before .before .before .before .if1 .left) _ (c .before .before .before .before .before .before .before .before .before .is-in .ensures) (c .before .before .before .before .before .before .before .before .if2 .left) _ (c .before .before .before .before .before .before .queued .ensures .answer)
+    way-joins (c .before .before .before .before .before .before .before .before .before .before .before .before .before .before .args .r) (c .before .before .before .before .before .before .before .before .before .before .before .before .before .before .args .a) (c .before .before .before .before .before .before .before .before .before .before .before .before .before .before .args .store .now) _ (c .before .before .before .before .before .before .before .before .before .before .under-way .ensures .answer) (c .before .before .before .before .before .before .before .before .before .if1 .left) (c .before .before .before .before .before .before .before .before .if2 .left) _ (c .before .before .before .before .before .before .queued .ensures .answer)
     _ _ (c .before .before .before .before .before .if3 .left) (c .before .before .before .arrive2 .ensures .words) (c .quiet3 .ensures)
 
 pub take-oldest-spec : {M : Type 1} → statement M
@@ -83,13 +74,10 @@ take-oldest-spec =
     (tie.spec
     mul-i
     add-i
-    mul-heard
-    element-copy-out-heard
     under-way-requires
     quiet-requires
     same-length
     returns
-    is-in-requires
     skip-requires
     quiet-requires-2
     same-length-2
