@@ -12,6 +12,7 @@ ghost use Rattle.order.specs.Terms.{Names};
 ghost use Rattle.hub.specs.Answers.{answerOf, noAnswer, pairNumber, listNumber, startPairs};
 
 // What a run or a drain answers. At refusal the number alone, and zeros.
+#[repr(C)]
 pub struct Answer {
     pub number: u32,
     pub sent: u32,

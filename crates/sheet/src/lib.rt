@@ -179,7 +179,11 @@ pub fn parse(sheet: &[u8]) -> Parsed
     }
 }
 
+// The answers of the three calls are `#[repr(C)]`: crate derowlas_c hands them to C programs as they are, and include/derowlas.h has their fields in this
+// order.
+
 // What reading answers: 0, N and P; or the number that it is refused with, and zeros.
+#[repr(C)]
 pub struct Reading {
     pub number: u32,
     pub boxes: u32,
@@ -227,6 +231,8 @@ pub fn read(sheet: &[u8], table: &mut [u16]) -> Reading
 
 // ---- the allowance
 
+// What the allowance answers: 0 and the identities; or the number that the sheet is refused with, and 0.
+#[repr(C)]
 pub struct Allowed {
     pub number: u32,
     pub identities: u32,
@@ -402,6 +408,7 @@ fn put_trailer(buffer: &mut [u8], at: usize, p: usize, n: usize)
 }
 
 // What writing answers: 0 and the bytes written; or the number that it is refused with, and 0.
+#[repr(C)]
 pub struct Written {
     pub number: u32,
     pub length: u32,
