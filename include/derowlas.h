@@ -24,6 +24,7 @@
 #ifndef DEROWLAS_H
 #define DEROWLAS_H
 
+#include <stdbool.h>
 #include <stddef.h>
 #include <stdint.h>
 
@@ -120,7 +121,72 @@ struct derowlas_allowed {
  */
 struct derowlas_allowed derowlas_allowance(const uint8_t *sheet, size_t sheet_len);
 
-/* ---- lists and the drain: derowlas_run and derowlas_drain are not in the library yet */
+/* ---- lists and the drain */
+
+/* The words of a box on a board: state, HOP, and the four tables of 16 words, Nodes, In_SPT, Not_SPT, Neighbors, in this order. */
+#define DEROWLAS_BLOCK_WORDS 66
+
+/* A board that serves every hub, DEROWLAS_BOXES * DEROWLAS_BLOCK_WORDS words. */
+#define DEROWLAS_BOARD_WORDS 1056
+
+/* The longest list, in bytes. */
+#define DEROWLAS_LIST_BYTES 60000
+
+/* A budget that finishes the drain of every sheet. */
+#define DEROWLAS_BUDGET 4560
+
+/* The first word of a box's block on a board. */
+enum derowlas_state {
+  DEROWLAS_SLEEPS = 0,
+  DEROWLAS_RUNS = 1,
+  DEROWLAS_STOPPED = 2
+};
+
+struct derowlas_ran {
+  uint32_t number;    /* enum derowlas_refusal */
+  uint32_t sent;      /* messages that boxes sent */
+  uint32_t moved;     /* messages that were delivered */
+  uint32_t under_way; /* messages that are on a wire and not yet delivered: sent - moved */
+};
+
+/*
+ * Runs a list of deliveries on a sheet, from a hub in which every box sleeps, and writes the board.
+ *
+ * The list is a run of pairs of bytes. A pair (a, a) starts box a, where it sleeps. A pair (a, b) of two different boxes delivers the first message
+ * that waits on the wire from a to b, where one does.
+ *
+ * sheet, sheet_len: read, as derowlas_read reads it.
+ * list, list_len: read.
+ * board, board_len: its first DEROWLAS_BLOCK_WORDS * N words are written where the answer's number is 0; the words after them stay as they were.
+ *   Word DEROWLAS_BLOCK_WORDS * i is the state of box i, and the next its HOP. Then come, 16 words each: Nodes, at d the set of the boxes at d hops;
+ *   In_SPT, at k the set of the origins whose lists box i takes over its link from k; Not_SPT, at k those that k does not take from box i; and
+ *   Neighbors, at k the links of box k. A sleeping box has zeros alone.
+ *
+ * Refusals, the first that applies: those of derowlas_allowance; 9; then pair by pair 10, 11; 12 where board_len is below DEROWLAS_BLOCK_WORDS * N;
+ * 13 as it happens.
+ */
+struct derowlas_ran derowlas_run(const uint8_t *sheet, size_t sheet_len, const uint8_t *list, size_t list_len, uint16_t *board, size_t board_len);
+
+struct derowlas_drained {
+  uint32_t number;    /* enum derowlas_refusal */
+  uint32_t sent;      /* as in derowlas_ran */
+  uint32_t moved;     /* as in derowlas_ran; at most the budget */
+  uint32_t under_way; /* as in derowlas_ran */
+  bool finished;      /* nothing is under way */
+};
+
+/*
+ * Starts a set of boxes and then delivers, one message at a time, the first that waits: of the lowest sender, and of that to the lowest receiver. It
+ * ends when nothing is under way or `budget` messages were delivered, and writes the board.
+ *
+ * sheet, sheet_len: read, as derowlas_read reads it.
+ * starts: the set of the boxes to start, in ascending order.
+ * budget: 0 only starts. DEROWLAS_BUDGET finishes every sheet.
+ * board, board_len: written as derowlas_run writes it.
+ *
+ * Refusals, the first that applies: those of derowlas_allowance; 10 where starts has a box of N or above; 12; 13.
+ */
+struct derowlas_drained derowlas_drain(const uint8_t *sheet, size_t sheet_len, uint16_t starts, uint32_t budget, uint16_t *board, size_t board_len);
 
 #ifdef __cplusplus
 }

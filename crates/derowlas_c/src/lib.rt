@@ -61,7 +61,12 @@ pub extern "C" fn derowlas_run(sheet: &[u8], list: &[u8], board: &mut [u16]) -> 
 
 // Starts a set of boxes, delivers until nothing is under way or the budget is spent, and writes the board. A refusal leaves the board as it was.
 #[no_mangle]
-pub extern "C" fn derowlas_drain(sheet: &[u8], starts: u16, budget: u32, board: &mut [u16]) -> hub::Answer
+pub extern "C" fn derowlas_drain(
+    sheet: &[u8],
+    starts: u16,
+    budget: u32,
+    board: &mut [u16],
+) -> hub::Answer
     ensures { λ r. ⌜ answerOf r (now (board .exit)) ≡ drainCall (now (sheet .entry)) starts budget (now (board .entry)) ⌝ }
 {
     hub::drain(sheet, starts, budget, board)

@@ -1,0 +1,31 @@
+use mathlib.Core.Path.{ap}
+use borrow.Author.Needs.{needs}
+use Rattle.rules.specs.Calls.{Ran}
+use Rattle.derowlas_c.proofs.derowlas_run.Statement.{statement}
+use Rattle.derowlas_c.proofs.derowlas_run.Tie as tie
+use Rattle.derowlas_c.proofs.derowlas_run.Reads as reads
+use Rattle.derowlas_c.proofs.derowlas_run.Lts as lts
+use Rattle.hub.proofs.run.Reads as run-reads
+
+-- src/lib.rt:53:9
+run-requires : tie.Need-run-requires
+run-requires c κs = search needs
+
+-- src/lib.rt:49:1
+same-length : tie.Need-same-length
+same-length c = search needs
+
+-- src/lib.rt:49:1
+returns : tie.Need-returns
+returns c =
+    let e = c .before .before .run .ensures in
+    record {
+      number-is = ap (λ (a : Ran). a .number) e;
+      sent-is = ap (λ (a : Ran). a .sent) e;
+      moved-is = ap (λ (a : Ran). a .moved) e;
+      under-way-is = ap (λ (a : Ran). a .underWay) e;
+      board-is = ap (λ (a : Ran). a .board) e;
+    }
+
+pub derowlas-run-spec : {M : Type 1} → statement M
+derowlas-run-spec = tie.close (tie.spec run-requires same-length returns)
