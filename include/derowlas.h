@@ -137,8 +137,8 @@ struct derowlas_allowed derowlas_allowance(const uint8_t *sheet, size_t sheet_le
 
 /* The first word of a box's block on a board. */
 enum derowlas_state {
-  DEROWLAS_SLEEPS = 0,
-  DEROWLAS_RUNS = 1,
+  DEROWLAS_ASLEEP = 0,
+  DEROWLAS_AWAKE = 1,
   DEROWLAS_STOPPED = 2
 };
 
