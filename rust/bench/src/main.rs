@@ -1,0 +1,125 @@
+//! Times whole calls of the proved library beside those of the independent
+//! program, interleaved in one process, and prints nanoseconds a message for
+//! both and their ratio.
+//!
+//! Bare times depend on the machine and on what else it does; the ratio much
+//! less.  A round times both programs one after the other on the same case,
+//! and the table shows the median round of each, and the median of the
+//! rounds' ratios.
+
+use compare::{Chance, Hub};
+use std::hint::black_box;
+use std::time::Instant;
+
+const ROUNDS: usize = 41;
+
+/// The least time of one program in one round, so that the clock's own step
+/// does not count.
+const ROUND_NANOS: f64 = 2e6;
+
+/// A call, on which both programs must agree.
+enum Call {
+    Drain { starts: u16 },
+    Run { list: Vec<u8> },
+}
+
+struct Case {
+    name: &'static str,
+    sheet: Vec<u8>,
+    call: Call,
+}
+
+impl Case {
+    fn drain(name: &'static str, hub: Hub, starts: u16) -> Case {
+        let sheet = hub.sheet();
+        Case { name, sheet, call: Call::Drain { starts } }
+    }
+
+    /// A list of the greatest length in which most pairs do something: each
+    /// goes over a wire by chance.
+    fn long_run(name: &'static str, hub: Hub) -> Case {
+        let mut chance = Chance::new();
+        let mut list = vec![0, 0];
+        while list.len() < 60_000 {
+            let (low, high) = hub.pairs[chance.below(hub.pairs.len())];
+            list.extend(if chance.below(2) == 0 { [low, high] } else { [high, low] });
+        }
+        let sheet = hub.sheet();
+        Case { name, sheet, call: Call::Run { list } }
+    }
+
+    /// What the proved library answers: the messages moved.
+    fn proved(&self, board: &mut [u16]) -> u32 {
+        match &self.call {
+            Call::Drain { starts } => derowlas::drain(&self.sheet, *starts, derowlas::BUDGET, board).expect("accepted").moved,
+            Call::Run { list } => derowlas::run(&self.sheet, list, board).expect("accepted").moved,
+        }
+    }
+
+    /// What the independent program answers.
+    fn independent(&self, board: &mut [u16]) -> u32 {
+        match &self.call {
+            Call::Drain { starts } => independent::drain(&self.sheet, *starts, derowlas::BUDGET, board).expect("accepted").counts.moved,
+            Call::Run { list } => independent::run(&self.sheet, list, board).expect("accepted").moved,
+        }
+    }
+
+    /// What a time is divided by: a drain's messages, a list's pairs.
+    fn units(&self, moved: u32) -> f64 {
+        match &self.call {
+            Call::Drain { .. } => f64::from(moved),
+            Call::Run { list } => list.len() as f64 / 2.0,
+        }
+    }
+}
+
+/// Nanoseconds a call, over `times` of them.
+fn time(times: usize, mut call: impl FnMut() -> u32) -> f64 {
+    let began = Instant::now();
+    for _ in 0..times {
+        black_box(call());
+    }
+    began.elapsed().as_nanos() as f64 / times as f64
+}
+
+fn median(mut all: Vec<f64>) -> f64 {
+    all.sort_by(f64::total_cmp);
+    all[all.len() / 2]
+}
+
+fn main() {
+    let ring = Hub::of(16, |low, high| low + 1 == high || (low == 0 && high == 15));
+    let cases = [
+        Case::drain("drain, line of 16", Hub::line(16), 1),
+        Case::drain("drain, ring of 16", ring, 1),
+        Case::drain("drain, star of 16", Hub::of(16, |low, _| low == 0), 1),
+        Case::drain("drain, mesh of 16", Hub::mesh(16), 1),
+        Case::drain("drain, mesh of 4", Hub::mesh(4), 1),
+        Case::long_run("run, 60,000 bytes, mesh of 16", Hub::mesh(16)),
+        Case::long_run("run, 60,000 bytes, line of 16", Hub::line(16)),
+    ];
+    println!("| case | proved, ns | independent, ns | ratio |");
+    println!("|---|---:|---:|---:|");
+    let mut worst: f64 = 0.0;
+    for case in &cases {
+        let (mut ours, mut theirs) = (vec![0; 1056], vec![0; 1056]);
+        let moved = case.proved(&mut ours);
+        assert_eq!(moved, case.independent(&mut theirs), "{}: moved", case.name);
+        assert_eq!(ours, theirs, "{}: the board", case.name);
+        let one = time(3, || case.independent(&mut theirs));
+        let times = (ROUND_NANOS / one).ceil() as usize;
+        let rounds: Vec<(f64, f64)> = (0..ROUNDS)
+            .map(|_| (time(times, || case.proved(&mut ours)), time(times, || case.independent(&mut theirs))))
+            .collect();
+        let units = case.units(moved);
+        let ratio = median(rounds.iter().map(|(p, i)| p / i).collect());
+        worst = worst.max(ratio);
+        println!(
+            "| {} | {:.1} | {:.1} | {ratio:.2} |",
+            case.name,
+            median(rounds.iter().map(|r| r.0).collect()) / units,
+            median(rounds.iter().map(|r| r.1).collect()) / units,
+        );
+    }
+    println!("\nworst ratio {worst:.2}");
+}
