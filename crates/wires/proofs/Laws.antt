@@ -1,16 +1,15 @@
 -- What the calls on the store of waiting messages come to in lists, over its sizes: what joined, what was delivered, what was taken; that every other
 -- wire is as it was; and that the store stays formed. Assumes nothing.
 use Prim.Native.Nat.{ℕ, zero, suc, _+_, _*_, _-_, _%_, _≤_, _<_}
-use native.Mathlib.Nat.{add-zero, mod-lt, mod-mod, mod-add-mod, mod-eq-of-lt, zero-mod}
-use native.Mathlib.Numerals.{add-one}
+use native.Mathlib.Nat.{add-zero, mod-lt, mod-mod, mod-add-mod, mod-eq-of-lt}
 use native.Mathlib.Decide.{ℕ-discrete}
 use native.Mathlib.Omega.{arith}
 use mathlib.Core.Path.{_≡_, refl, sym, ap, ap₂, _∙_}
 use mathlib.Core.Logic.{_≢_}
-use mathlib.Core.Bool.{Bool, true, false, cond}
+use mathlib.Core.Bool.{Bool, true, false}
 use mathlib.Core.List.{List, [], _∷_, _++_}
 use lib.Dec.{eqb, ltb}
-use lib.ListN.{length, getD, set, replicate, length-set, length-append, length-replicate}
+use lib.ListN.{length, set, replicate, length-set, length-append, length-replicate}
 use borrow.Author.Tests.{ltb-true, ltb-false, eqb-true, eqb-false, lt-ltb, le-ltb, eq-eqb, ne-eqb}
 use Rattle.rules.specs.Sets.{word}
 use Rattle.wires.specs.Wires.{Sizes, sixteen, Proper, Waiting, Formed, stride, place, slot, headAt, queuedAt, wayAt, head, queued, underWay, ringAt, waiting, none, hasRoom, pushed, arrived, oldest, skipped, front, taken, takenWord, cleared, Others, joinWay, Pushed, Arrived, Skipped, First, Taken, Cleared, Empty}
@@ -19,11 +18,6 @@ use Rattle.wires.proofs.Ring.{turn-apart, read-same, read-beside, read-
 -- a wire that holds these two lists
 abbrev holds : List ℕ → List ℕ → Waiting
 holds q w = record { queue = q; way = w }
-
--- a property of both arms of a choice
-pick : {A : Type 0} (P : A → Type 0) (b : Bool) {x y : A} → (b ≡ true → P x) → (b ≡ false → P y) → P (cond b x y)
-pick P true f g = f refl
-pick P false f g = g refl
 
 -- how many wait, in lists and in the store's own counts
 pub queue-length : (z : Sizes) (s : List ℕ) (i : ℕ) → length (waiting z s i .queue) ≡ queued z s i

@@ -1,7 +1,7 @@
 -- Laws of a ring of words inside a store, over its sizes: what a ring says depends on its own words alone, and where two places of a store differ.
 -- Assumes nothing.
 use Prim.Native.Nat.{ℕ, zero, suc, _+_, _*_, _-_, _/_, _%_, _≤_, _<_}
-use native.Mathlib.Nat.{add-zero, mod-lt, mod-mod, mod-add-mod, mod-eq-of-lt, mod-eq-sub-mod}
+use native.Mathlib.Nat.{add-zero, mod-lt, mod-add-mod, mod-eq-of-lt, mod-eq-sub-mod}
 use native.Mathlib.Numerals.{add-one}
 use native.Mathlib.Decide.{decLt}
 use native.Mathlib.Omega.{arith}
@@ -9,7 +9,7 @@ use mathlib.Core.Path.{_≡_, refl, sym, ap, ap₂, _∙_}
 use mathlib.Core.Logic.{_≢_}
 use mathlib.Core.List.{List, [], _∷_, _++_}
 use lib.Arith.{digits-div, digits-lt}
-use lib.ListN.{length, getD, set}
+use lib.ListN.{length, set}
 use lib.Seq.{getD-set-same, getD-set-other}
 use Rattle.rules.specs.Sets.{word}
 use Rattle.wires.specs.Wires.{Sizes, stride, place, slot, ringAt}
@@ -99,7 +99,7 @@ module _ (z : Sizes) where
   pub ring-first : (s : List ℕ) (i h n x : ℕ) (q : List ℕ) → ringAt z s i h n ≡ x ∷ q
       → (word s (slot z i h) ≡ x) × (0 < n) × (ringAt z s i (h + 1) (n - 1) ≡ q)
   unfolding ringAt
-  ring-first s i h zero x q e = absurd (let z : _≡_ {A = ℕ} 0 1 = cc in omega arith)
+  ring-first s i h zero x q e = absurd (let never : _≡_ {A = ℕ} 0 1 = cc in omega arith)
   ring-first s i h (suc n) x q e = let a : suc n - 1 ≡ n = omega arith in (cc, omega arith, rw a (cc))
 
   pub ring-some : (s : List ℕ) (i h n : ℕ) → n ≢ 0 → ringAt z s i h n ≡ word s (slot z i h) ∷ ringAt z s i (h + 1) (n - 1)

@@ -71,8 +71,8 @@ pub fn first(store: &[u32], i: usize) -> u32
 {
     let base = i * 36;
     let head = store[base + 32] % 32;
-    let at = base + head as usize;
-    store[at]
+    let oldest = base + head as usize;
+    store[oldest]
 }
 
 // Takes the head off the queue, and answers it. Where the queue is empty: 0, and nothing changes.
@@ -88,7 +88,8 @@ pub fn take(store: &mut [u32], i: usize) -> u32
     }
     let at = base + head as usize;
     let word = store[at];
-    store[base + 32] = (head + 1) % 32;
+    let next = (head + 1) % 32;
+    store[base + 32] = next;
     store[base + 33] = queued - 1;
     word
 }

@@ -17,11 +17,11 @@ mul-head c = search needs
 shared-slice-read-head : tie.Need-shared-slice-read-head
 shared-slice-read-head c = search needs
 
-cast-at : tie.Need-cast-at
-cast-at c = search needs
+cast-oldest : tie.Need-cast-oldest
+cast-oldest c = search needs
 
-add-at : tie.Need-add-at
-add-at c = search needs
+add-oldest : tie.Need-add-oldest
+add-oldest c = search needs
 
 mul-result : tie.Need-mul-result
 mul-result c = search needs
@@ -41,8 +41,8 @@ first-spec =
     add-head
     mul-head
     shared-slice-read-head
-    cast-at
-    add-at
+    cast-oldest
+    add-oldest
     mul-result
     shared-slice-read-result
     returns)

@@ -43,11 +43,11 @@ mul-word c = search needs
 slice-read-word : tie.Need-slice-read-word
 slice-read-word c = search needs
 
+add-next : tie.Need-add-next
+add-next c = search needs
+
 add-store : tie.Need-add-store
 add-store c = search needs
-
-add-store-2 : tie.Need-add-store-2
-add-store-2 c = search needs
 
 mul-store : tie.Need-mul-store
 mul-store c = search needs
@@ -58,8 +58,8 @@ slice-write-store c = search needs
 sub-store : tie.Need-sub-store
 sub-store c = search needs
 
-add-store-3 : tie.Need-add-store-3
-add-store-3 c = search needs
+add-store-2 : tie.Need-add-store-2
+add-store-2 c = search needs
 
 mul-store-2 : tie.Need-mul-store-2
 mul-store-2 c = search needs
@@ -89,12 +89,12 @@ take-spec =
     add-at
     mul-word
     slice-read-word
+    add-next
     add-store
-    add-store-2
     mul-store
     slice-write-store
     sub-store
-    add-store-3
+    add-store-2
     mul-store-2
     slice-write-store-2
     same-length
