@@ -17,12 +17,11 @@ use Rattle.wires.specs.Words.{wordOf, isList, originOf, setOf}
 use Rattle.wires.specs.Wires.{sixteen, waiting, queued, hasRoom, pushed, Pushed, front, taken, takenWord, Taken}
 use Rattle.wires.proofs.Ring.{ring-some}
 use Rattle.wires.proofs.Laws.{queue-length, take-law, sixteen-proper}
-use Rattle.mail.specs.declared.Gathered.{Gathered}
 use Rattle.mail.specs.declared.Letter.{Letter}
 use Rattle.mail.specs.Post.{Posted, postWord, postLists, postIf}
 use Rattle.mail.specs.Letter.{postLink}
 use Rattle.mail.specs.Gather.{Got, wireOf, listAt, takeList, takeLists, takeHead, hear, gatherLink}
-use Rattle.mail.specs.Gathered.{got}
+use Rattle.mail.specs.Gathered.{got, gatherIf}
 
 -- ---- a choice, and a loop over the members of a set
 
@@ -80,10 +79,10 @@ a-list s i n x r e z w g =
     let h : ltb 0 (queued sixteen s i) ≡ true = lt-ltb 0 (queued sixteen s i) (omega arith) in
     rw (h, ← w) g
 
-pub took-list : (s s′ : List ℕ) (i x k o y : ℕ) (g : Gathered) → Taken sixteen s i s′ x → k ≡ originOf x → o ≡ 2 ^ k → y ≡ setOf x
-    → got s′ (record { heads = g .heads; listed = bitOr (g .listed) o; lists = set (g .lists) k y; heard = g .heard }) ≡ takeList i (got s g)
+pub took-list : (s s′ hs ls : List ℕ) (i x k o y listed h : ℕ) → Taken sixteen s i s′ x → k ≡ originOf x → o ≡ 2 ^ k → y ≡ setOf x
+    → got s′ hs (bitOr listed o) (set ls k y) h ≡ takeList i (got s hs listed ls h)
 unfolding takeList
-took-list s s′ i x k o y g p ek eo ey = rw (p .words, eo, ey, ek, p .answer)
+took-list s s′ hs ls i x k o y listed h p ek eo ey = rw (p .words, eo, ey, ek, p .answer)
 
 -- a list taken leaves one less in the queue
 pub one-less : (s : List ℕ) (i : ℕ) → length s ≡ 9216 → i < 256 → listAt s i ≡ true → suc (queued sixteen (taken sixteen s i) i) ≡ queued sixteen s i
@@ -117,28 +116,29 @@ unfolding takeLists
 lists-end zero i g e = refl
 lists-end (suc n) i g e = rw e
 
-pub took-head : (s s′ : List ℕ) (i j x y : ℕ) (g : Gathered) → Taken sixteen s i s′ x → y ≡ setOf x
-    → got s′ (record { heads = set (g .heads) j y; listed = g .listed; lists = g .lists; heard = g .heard }) ≡ takeHead i j (got s g)
-unfolding takeHead
-took-head s s′ i j x y g p ey = rw (p .words, ey, p .answer)
+pub not-heard : (s : List ℕ) (i j n heard : ℕ) → n ≡ queued sixteen s i → n ≡ 0 → heard ≡ cond (ltb 0 (queued sixteen s i)) (bitOr heard (2 ^ j)) heard
+not-heard s i j n heard e z = let h : queued sixteen s i ≡ 0 = sym e ∙ z in rw h
 
-pub not-heard : (s : List ℕ) (i j n : ℕ) (g : Gathered) → n ≡ queued sixteen s i → n ≡ 0 → got s g ≡ hear i j (got s g)
-unfolding hear
-not-heard s i j n g e z = let h : queued sixteen s i ≡ 0 = sym e ∙ z in rw h
-
-pub is-heard : (s : List ℕ) (i j n o : ℕ) (g : Gathered) → n ≡ queued sixteen s i → (n ≡ 0 → ⊥) → o ≡ 2 ^ j
-    → got s (record { heads = g .heads; listed = g .listed; lists = g .lists; heard = bitOr (g .heard) o }) ≡ hear i j (got s g)
-unfolding hear
-is-heard s i j n o g e z w =
+pub is-heard : (s : List ℕ) (i j n o heard : ℕ) → n ≡ queued sixteen s i → (n ≡ 0 → ⊥) → o ≡ 2 ^ j
+    → bitOr heard o ≡ cond (ltb 0 (queued sixteen s i)) (bitOr heard (2 ^ j)) heard
+is-heard s i j n o heard e z w =
     let h : ltb 0 (queued sixteen s i) ≡ true = lt-ltb 0 (queued sixteen s i) (omega arith) in
     rw (h, w)
 
-pub link-yes : (t : Bool) (b j links : ℕ) (g h l r : Got) → t ≡ mem j links → t ≡ true → h ≡ takeHead (wireOf j b) j g
-    → l ≡ takeLists (queued sixteen (h .store) (wireOf j b)) (wireOf j b) h → r ≡ hear (wireOf j b) j l → r ≡ cond (mem j links) (gatherLink b j g) g
-unfolding gatherLink
-link-yes t b j links g h l r e y eh el er =
-    picked-yes t (mem j links) _ g r e y
-    (er ∙ ap (hear (wireOf j b) j) (el ∙ ap (λ (z : Got). takeLists (queued sixteen (z .store) (wireOf j b)) (wireOf j b) z) eh))
+-- the head, the lists behind it, and whether the link is still heard
+pub link-yes : (t : Bool) (b j links : ℕ) (s s₁ s₂ hs ls ls₂ : List ℕ) (listed heard x y listed₂ heard₂ : ℕ) → t ≡ mem j links → t ≡ true
+    → Taken sixteen s (wireOf j b) s₁ x → y ≡ setOf x
+    → ((qs : List ℕ) (h : ℕ) → got s₂ qs listed₂ ls₂ h ≡ takeLists (queued sixteen s₁ (wireOf j b)) (wireOf j b) (got s₁ qs listed ls h))
+    → heard₂ ≡ cond (ltb 0 (queued sixteen s₂ (wireOf j b))) (bitOr heard (2 ^ j)) heard
+    → got s₂ (set hs j y) listed₂ ls₂ heard₂ ≡ gatherIf links b j (got s hs listed ls heard)
+unfolding gatherLink takeHead hear
+link-yes t b j links s s₁ s₂ hs ls ls₂ listed heard x y listed₂ heard₂ e is p ey el eh =
+    let i : ℕ = wireOf j b in
+    let g : Got = got s hs listed ls heard in
+    let head : got s₁ (set hs j y) listed ls heard ≡ takeHead i j g = rw (p .words, ey, p .answer) in
+    let all : got s₂ (set hs j y) listed₂ ls₂ heard ≡ takeLists (queued sixteen (takeHead i j g .store) i) i (takeHead i j g) =
+    el (set hs j y) heard ∙ ap (λ (z : Got). takeLists (queued sixteen (z .store) i) i z) head in
+    picked-yes t (mem j links) _ g _ e is (rw eh (ap (hear i j) all))
 
 -- ---- all that goes to one link
 

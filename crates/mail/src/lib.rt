@@ -2,6 +2,9 @@
 ghost use mathlib.Core.Path.{_≡_};
 ghost use Prim.Native.Nat.{ℕ, _+_, _*_, _^_, _<_};
 ghost use mathlib.Core.Bool.{cond};
+ghost use mathlib.Core.List.{List};
+ghost use lib.Bits.{bitOr};
+ghost use lib.Dec.{ltb};
 ghost use lib.ListN.{length};
 ghost use Rattle.rules.specs.Sets.{mem, word};
 ghost use Rattle.rules.specs.Box.{neighbors};
@@ -9,8 +12,8 @@ ghost use Rattle.wires.specs.Words.{wordOf};
 ghost use Rattle.wires.specs.Wires.{sixteen, queued, cleared};
 ghost use Rattle.mail.specs.Post.{postWord, postLists, postIf};
 ghost use Rattle.mail.specs.Letter.{posted, postLink};
-ghost use Rattle.mail.specs.Gather.{gotNothing, wireOf, listAt, takeList, takeLists, takeHead, hear, gatherLink, gatherTo, clearTo};
-ghost use Rattle.mail.specs.Gathered.{got};
+ghost use Rattle.mail.specs.Gather.{gotNothing, wireOf, listAt, takeList, takeLists, gatherTo, clearTo};
+ghost use Rattle.mail.specs.Gathered.{got, gatherIf};
 
 // How many messages were sent, and whether one found no room on its wire (refusal 13).
 pub struct Counts {
@@ -21,7 +24,7 @@ pub struct Counts {
 // ---- what goes out
 
 // One message joins wire i.
-pub fn post(store: &mut [u32], i: usize, word: u32, c: Counts) -> Counts
+fn post(store: &mut [u32], i: usize, word: u32, c: Counts) -> Counts
     requires { ⌜ (length (now store) ≡ 9216) × (i < 256) ⌝ }
     ensures { λ r. ⌜ posted (now (store .exit)) r ≡ postWord i word (posted (now (store .entry)) c) ⌝ }
 {
@@ -120,84 +123,93 @@ fn list_at(store: &[u32], i: usize) -> bool
     wires::is_list(wires::first(store, i))
 }
 
-// "Some queue has a Neighbors message at its head: take it and save its list."
-fn take_list(store: &mut [u32], i: usize, g: Gathered) -> Gathered
+// "Some queue has a Neighbors message at its head: take it and save its list." The tables are lent, so that none is copied from link to link;
+// what a contract says here holds beside any heads hs and any links h that were heard.
+fn take_list(store: &mut [u32], i: usize, lists: &mut [u16; 16], listed: u16) -> u16
     requires { ⌜ (length (now store) ≡ 9216) × (i < 256) ⌝ }
-    ensures { λ r. ⌜ got (now (store .exit)) r ≡ takeList i (got (now (store .entry)) g) ⌝ }
+    ensures { λ r. ⌜ ((hs : List ℕ) (h : ℕ) → got (now (store .exit)) hs r (now (lists .exit)) h ≡ takeList i (got (now (store .entry)) hs listed (now (lists .entry)) h)) ⌝ }
 {
     let x = wires::take(store, i);
     let k = wires::origin(x);
-    let mut q = g;
-    q.listed = g.listed | sets::only(k);
-    q.lists[k] = wires::set_of(x);
-    q
+    lists[k] = wires::set_of(x);
+    listed | sets::only(k)
 }
 
-fn take_lists(store: &mut [u32], i: usize, g: Gathered) -> Gathered
+fn take_lists(store: &mut [u32], i: usize, lists: &mut [u16; 16], listed: u16) -> u16
     requires { ⌜ (length (now store) ≡ 9216) × (i < 256) ⌝ }
-    ensures { λ r. ⌜ got (now (store .exit)) r ≡ takeLists (queued sixteen (now (store .entry)) i) i (got (now (store .entry)) g) ⌝ }
+    ensures { λ r. ⌜ ((hs : List ℕ) (h : ℕ) → got (now (store .exit)) hs r (now (lists .exit)) h ≡ takeLists (queued sixteen (now (store .entry)) i) i (got (now (store .entry)) hs listed (now (lists .entry)) h)) ⌝ }
 {
-    let mut q = g;
+    let mut q = listed;
     while list_at(store, i) {
-        q = take_list(store, i, q);
+        q = take_list(store, i, lists, q);
     }
-    q
-}
-
-// "Take one from each link": the head of link j.
-fn take_head(store: &mut [u32], i: usize, j: usize, g: Gathered) -> Gathered
-    requires { ⌜ (length (now store) ≡ 9216) × ((i < 256) × (j < 16)) ⌝ }
-    ensures { λ r. ⌜ got (now (store .exit)) r ≡ takeHead i j (got (now (store .entry)) g) ⌝ }
-{
-    let x = wires::take(store, i);
-    let mut q = g;
-    q.heads[j] = wires::set_of(x);
     q
 }
 
 // Link j is heard where its queue is not empty.
-fn hear(store: &[u32], i: usize, j: usize, g: Gathered) -> Gathered
+fn hear(store: &[u32], i: usize, j: usize, heard: u16) -> u16
     requires { ⌜ (length (now store) ≡ 9216) × ((i < 256) × (j < 16)) ⌝ }
-    ensures { λ r. ⌜ got (now (store .entry)) r ≡ hear i j (got (now (store .entry)) g) ⌝ }
+    ensures { λ r. ⌜ r ≡ cond (ltb 0 (queued sixteen (now (store .entry)) i)) (bitOr heard (2 ^ j)) heard ⌝ }
 {
     if wires::queued(store, i) == 0 {
-        return g;
+        return heard;
     }
-    let mut q = g;
-    q.heard = g.heard | sets::only(j);
-    q
+    heard | sets::only(j)
 }
 
-// From link j to box b, where it is a link: the set at the head, then the lists behind it.
-fn gather_link(store: &mut [u32], b: usize, j: usize, links: u16, g: Gathered) -> Gathered
+// The origins whose lists were taken, and the links that are heard.
+pub struct Found {
+    pub listed: u16,
+    pub heard: u16,
+}
+
+// From link j to box b, where it is a link: "Take one from each link", then the lists behind it.
+fn gather_link(
+    store: &mut [u32],
+    b: usize,
+    j: usize,
+    links: u16,
+    heads: &mut [u16; 16],
+    lists: &mut [u16; 16],
+    f: Found,
+) -> Found
     requires { ⌜ (length (now store) ≡ 9216) × ((b < 16) × (j < 16)) ⌝ }
-    ensures { λ r. ⌜ got (now (store .exit)) r ≡ cond (mem j links) (gatherLink b j (got (now (store .entry)) g)) (got (now (store .entry)) g) ⌝ }
+    ensures { λ r. ⌜ got (now (store .exit)) (now (heads .exit)) (r .listed) (now (lists .exit)) (r .heard) ≡ gatherIf links b j (got (now (store .entry)) (now (heads .entry)) (f .listed) (now (lists .entry)) (f .heard)) ⌝ }
 {
     if sets::is_in(links, j) {
         let i = j * 16 + b;
-        let head = take_head(store, i, j, g);
-        let lists = take_lists(store, i, head);
-        return hear(store, i, j, lists);
+        let x = wires::take(store, i);
+        heads[j] = wires::set_of(x);
+        let listed = take_lists(store, i, lists, f.listed);
+        let heard = hear(store, i, j, f.heard);
+        return Found {
+            listed: listed,
+            heard: heard,
+        };
     }
-    g
+    f
 }
 
 // All that a round of box b takes, ascending by link.
 pub fn gather(store: &mut [u32], b: usize, links: u16) -> Gathered
     requires { ⌜ (length (now store) ≡ 9216) × (b < 16) ⌝ }
-    ensures { λ r. ⌜ got (now (store .exit)) r ≡ gatherTo b links 16 (gotNothing (now (store .entry))) ⌝ }
+    ensures { λ r. ⌜ got (now (store .exit)) (r .heads) (r .listed) (r .lists) (r .heard) ≡ gatherTo b links 16 (gotNothing (now (store .entry))) ⌝ }
 {
-    let none: [u16; 16] = [0; 16];
-    let mut q = Gathered {
-        heads: none,
+    let mut heads: [u16; 16] = [0; 16];
+    let mut lists: [u16; 16] = [0; 16];
+    let mut f = Found {
         listed: 0,
-        lists: none,
         heard: 0,
     };
     for j in 0..16 {
-        q = gather_link(store, b, j, links, q);
+        f = gather_link(store, b, j, links, &mut heads, &mut lists, f);
     }
-    q
+    Gathered {
+        heads: heads,
+        listed: f.listed,
+        lists: lists,
+        heard: f.heard,
+    }
 }
 
 // ---- what is dropped

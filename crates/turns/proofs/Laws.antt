@@ -111,8 +111,9 @@ pub one-list-is : (r : Receiver) (a x k o y : ℕ) → k ≡ originOf x → o �
 unfolding oneListTo
 one-list-is r a x k o y ek eo ey = rw (eo, ey, ek)
 
-pub round-is : (r : Receiver) (a : ℕ) (s s′ : List ℕ) (g : Gathered) → got s′ g ≡ gatherTo (r .own) (r .links) 16 (gotNothing s)
-    → took s′ (gathered r a (got s′ g)) ≡ roundTo r a s
+pub round-is : (r : Receiver) (a : ℕ) (s s′ : List ℕ) (g : Gathered)
+    → got s′ (g .heads) (g .listed) (g .lists) (g .heard) ≡ gatherTo (r .own) (r .links) 16 (gotNothing s)
+    → took s′ (gathered r a (got s′ (g .heads) (g .listed) (g .lists) (g .heard))) ≡ roundTo r a s
 unfolding roundTo
 round-is r a s s′ g e = ap (λ (z : Got). took (z .store) (gathered r a z)) e
 

@@ -45,7 +45,7 @@ pub struct Turn {
 // ---- the next pair
 
 // "It searches senders ascending, then receivers, and leaves the search at the first wire that holds a message."
-pub fn search(busy: [u16; 16]) -> Pair
+fn search(busy: [u16; 16]) -> Pair
     ensures { λ r. ⌜ (r ≡ searched busy) × ((r .«from» < 16) × (r .to < 16)) ⌝ }
 {
     let mut p = Pair {
@@ -72,7 +72,7 @@ pub fn search(busy: [u16; 16]) -> Pair
 }
 
 // The pairs of the list, while it lasts; then the search.
-pub fn next_pair(list: &[u8], c: Turn) -> Pair
+fn next_pair(list: &[u8], c: Turn) -> Pair
     requires { ⌜ c .pairs * 2 ≤ length (now list) ⌝ }
     ensures { λ r. ⌜ (r ≡ nextPair (now (list .entry)) c) × ((r .«from» < 16) × (r .to < 16)) ⌝ }
 {
@@ -239,7 +239,7 @@ fn take_pair(store: &mut [u32], p: Pair, c: Turn) -> Arrival
     quiet(r, 0, false, false, r.heard)
 }
 
-pub fn take(store: &mut [u32], list: &[u8], c: Turn) -> Arrival
+fn take(store: &mut [u32], list: &[u8], c: Turn) -> Arrival
     requires { ⌜ (length (now store) ≡ 9216) × (c .pairs * 2 ≤ length (now list)) ⌝ }
     ensures { λ h. ⌜ (h ≡ tookDef (now (list .entry)) (now (store .entry)) c .arrival) × ((now (store .exit) ≡ tookDef (now (list .entry)) (now (store .entry)) c .store) × (h .own < 16)) ⌝ }
 {
@@ -291,7 +291,7 @@ fn post_each(store: &mut [u32], o: Departure, links: u16, c: Counts) -> Counts
 }
 
 // A box that neither wakes nor does a round sends nothing: most turns end here, with no table touched.
-pub fn post_all(store: &mut [u32], o: Departure, links: u16, c: Counts) -> Counts
+fn post_all(store: &mut [u32], o: Departure, links: u16, c: Counts) -> Counts
     requires { ⌜ length (now store) ≡ 9216 ⌝ }
     ensures { λ r. ⌜ posted (now (store .exit)) r ≡ postTo o links 16 (posted (now (store .entry)) c) ⌝ }
 {
@@ -411,7 +411,7 @@ fn heard_after(ended: bool, heard: u16) -> u16
 }
 
 // What goes out, and the next turn's state, which is this one's where it stands.
-pub fn put(store: &mut [u32], o: Departure, c: Turn) -> Turn
+fn put(store: &mut [u32], o: Departure, c: Turn) -> Turn
     requires { ⌜ (length (now store) ≡ 9216) × (1 ≤ c .left) ⌝ }
     ensures { λ r. ⌜ (r ≡ putDef (now (store .entry)) o c .turn) × (now (store .exit) ≡ putDef (now (store .entry)) o c .store) ⌝ }
 {
@@ -420,7 +420,9 @@ pub fn put(store: &mut [u32], o: Departure, c: Turn) -> Turn
     let ended = stopping(o.stops, o.wakes, o.round);
     let mut n = c;
     let links = n.links[b];
-    let to = less_busy(store, o.moved, a, b, n.busy[a]);
+    n.heard[b] = heard_after(ended, o.heard);
+    n.busy[a] = less_busy(store, o.moved, a, b, n.busy[a]);
+    n.busy[b] = more_busy(sends(o.wakes, o.round), links, n.busy[b]);
     clear_ended(store, ended, b, links);
     let first = Counts {
         sent: c.sent,
@@ -434,16 +436,13 @@ pub fn put(store: &mut [u32], o: Departure, c: Turn) -> Turn
     n.full = p.full;
     n.awake = awake_after(c.awake, b, ended, o.wakes);
     n.stopped = stopped_after(c.stopped, b, ended);
-    n.heard[b] = heard_after(ended, o.heard);
-    n.busy[a] = to;
-    n.busy[b] = more_busy(sends(o.wakes, o.round), links, n.busy[b]);
     n
 }
 
 // ---- turns
 
 // One turn: the row and the store are both lent.
-pub fn one_turn(row: &mut [Record], store: &mut [u32], list: &[u8], c: Turn) -> Turn
+fn one_turn(row: &mut [Record], store: &mut [u32], list: &[u8], c: Turn) -> Turn
     requires { ⌜ (length (now row) ≡ 16) × ((length (now store) ≡ 9216) × ((1 ≤ c .left) × (c .pairs * 2 ≤ length (now list)))) ⌝ }
     ensures { λ r. ⌜ going (now (row .exit)) (now (store .exit)) r ≡ turnDef (now (list .entry)) (going (now (row .entry)) (now (store .entry)) c) ⌝ }
 {
@@ -453,7 +452,7 @@ pub fn one_turn(row: &mut [Record], store: &mut [u32], list: &[u8], c: Turn) -> 
 }
 
 // One loop for the list and for the drain: it goes on while the state says so.
-pub fn run_turns(row: &mut [Record], store: &mut [u32], list: &[u8], first: Turn) -> Turn
+fn run_turns(row: &mut [Record], store: &mut [u32], list: &[u8], first: Turn) -> Turn
     requires { ⌜ (length (now row) ≡ 16) × ((length (now store) ≡ 9216) × (first .pairs * 2 ≤ length (now list))) ⌝ }
     ensures { λ r. ⌜ going (now (row .exit)) (now (store .exit)) r ≡ turnsDef (first .left) (now (list .entry)) (going (now (row .entry)) (now (store .entry)) first) ⌝ }
 {
@@ -473,7 +472,7 @@ pub struct Ran {
 }
 
 // Every box asleep.
-pub fn sleeping_row() -> [Record; 16]
+fn sleeping_row() -> [Record; 16]
     ensures { λ r. ⌜ r ≡ asleepRow ⌝ }
 {
     let r = boxes::asleep();
@@ -508,7 +507,7 @@ fn finish(row: [Record; 16], c: Turn) -> Ran
 }
 
 // "The run itself owns the row and lends it inward": the row and the store are local arrays, lent to the turns.
-pub fn run_from(list: &[u8], first: Turn) -> Ran
+fn run_from(list: &[u8], first: Turn) -> Ran
     requires { ⌜ first .pairs * 2 ≤ length (now list) ⌝ }
     ensures { λ r. ⌜ r ≡ ranOf (turnsDef (first .left) (now (list .entry)) (going asleepRow (none sixteen) first)) ⌝ }
 {

@@ -12,10 +12,11 @@ use Rattle.mail.proofs.gather.Statement.{statement}
 use Rattle.mail.proofs.gather.Tie as tie
 
 abbrev Inv-loop : tie.InvT-loop
-Inv-loop store₀ b links q₀ j₀ store q j = (j ≤ 16) × ((length store ≡ 9216) × (got store q ≡ gatherTo b links j (got store₀ q₀)))
+Inv-loop store₀ b links heads₀ lists₀ f₀ j₀ store heads lists f j =
+    (j ≤ 16) × ((length store ≡ 9216) × (got store heads (f .listed) lists (f .heard) ≡ gatherTo b links j (got store₀ heads₀ (f₀ .listed) lists₀ (f₀ .heard))))
 
 abbrev μ-loop : tie.MeasureT-loop
-μ-loop store₀ b links q₀ j₀ store q j = 16 - j
+μ-loop store₀ b links heads₀ lists₀ f₀ j₀ store heads lists f j = 16 - j
 
 loop-holds : tie.Need-loop-holds Inv-loop μ-loop
 unfolding gatherTo forEach
@@ -32,7 +33,7 @@ loop-less c = search needs
 
 loop-again : tie.Need-loop-again Inv-loop μ-loop
 unfolding gatherTo
-loop-again c = (search needs, (search needs, each-next _ _ _ _ _ _ (c .before .before .before .before .before .loop .inv .1 .1) (c .before .before .gather-link .ensures)))
+loop-again c = (search needs, (search needs, each-next _ _ _ _ _ _ (c .before .before .before .before .before .before .before .loop .inv .1 .1) (c .before .before .gather-link .ensures)))
 
 same-length : tie.Need-same-length Inv-loop μ-loop
 same-length c = search needs

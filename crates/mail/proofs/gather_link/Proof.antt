@@ -13,8 +13,17 @@ mul-i c = search needs
 add-i : tie.Need-add-i
 add-i c = search needs
 
-take-head-requires : tie.Need-take-head-requires
-take-head-requires c κs = search needs
+take-requires : tie.Need-take-requires
+take-requires c κs = search needs
+
+set-of-requires : tie.Need-set-of-requires
+set-of-requires c κs = search needs
+
+mul-heads : tie.Need-mul-heads
+mul-heads c = search needs
+
+element-write-heads : tie.Need-element-write-heads
+element-write-heads c = search needs
 
 take-lists-requires : tie.Need-take-lists-requires
 take-lists-requires c κs = search needs
@@ -26,7 +35,9 @@ same-length : tie.Need-same-length
 same-length c = search needs
 
 returns : tie.Need-returns
-returns c = link-yes _ (c .before .before .before .before .before .before .before .before .before .before .before .before .before .args .b) (c .before .before .before .before .before .before .before .before .before .before .before .before .before .args .j) _ _ _ _ _ (c .before .before .before .before .before .before .before .before .before .before .before .is-in .ensures) (c .before .before .before .before .before .before .before .before .before .before .if1 .taken) (c .before .before .before .before .before .before .before .before .take-head .ensures) (c .before .before .before .before .take-lists .ensures) (c .hear .ensures)
+returns c =
+    link-yes _ (c .before .before .before .before .before .before .before .before .before .before .before .before .before .before .before .args .b) (c .before .before .before .before .before .before .before .before .before .before .before .before .before .before .before .args .j) _ _ _ _ _ _ _ _ (c .before .before .before .before .before .before .before .before .before .before .before .before .before .before .before .args .f .heard) (c .before .before .before .before .before .before .before .before .before .before .take .result) _ _ _ (c .before .before .before .before .before .before .before .before .before .before .before .before .before .is-in .ensures) (c .before .before .before .before .before .before .before .before .before .before .before .before .if1 .taken) (c .before .before .before .before .before .before .before .before .before .before .take .ensures) (c .before .before .before .before .before .before .before .set-of .ensures)
+    (c .before .before .before .before .take-lists .ensures) (c .hear .ensures)
 
 returns-2 : tie.Need-returns-2
 returns-2 c = picked-no _ _ _ _ (c .before .is-in .ensures) (c .if1 .left)
@@ -38,7 +49,10 @@ gather-link-spec =
     is-in-requires
     mul-i
     add-i
-    take-head-requires
+    take-requires
+    set-of-requires
+    mul-heads
+    element-write-heads
     take-lists-requires
     hear-requires
     same-length

@@ -10,23 +10,23 @@ take-requires c κs = search needs
 origin-requires : tie.Need-origin-requires
 origin-requires c κs = search needs
 
-only-requires : tie.Need-only-requires
-only-requires c κs = search needs
-
 set-of-requires : tie.Need-set-of-requires
 set-of-requires c κs = search needs
 
-mul-q : tie.Need-mul-q
-mul-q c = search needs
+mul-lists : tie.Need-mul-lists
+mul-lists c = search needs
 
-element-write-q : tie.Need-element-write-q
-element-write-q c = search needs
+element-write-lists : tie.Need-element-write-lists
+element-write-lists c = search needs
+
+only-requires : tie.Need-only-requires
+only-requires c κs = search needs
 
 same-length : tie.Need-same-length
 same-length c = search needs
 
 returns : tie.Need-returns
-returns c = took-list _ _ _ _ _ _ _ _ (c .before .before .before .before .before .before .take .ensures) (c .before .before .before .origin .ensures .0) (c .before .before .only .ensures) (c .set-of .ensures)
+returns c = λ hs h. took-list _ _ hs _ _ (c .before .before .before .before .before .take .result) _ _ _ _ h (c .before .before .before .before .before .take .ensures) (c .before .before .origin .ensures .0) (c .only .ensures) (c .before .set-of .ensures)
 
 pub take-list-spec : {M : Type 1} → statement M
 take-list-spec =
@@ -34,9 +34,9 @@ take-list-spec =
     (tie.spec
     take-requires
     origin-requires
-    only-requires
     set-of-requires
-    mul-q
-    element-write-q
+    mul-lists
+    element-write-lists
+    only-requires
     same-length
     returns)
