@@ -3,23 +3,9 @@
  * which must leave the lent memory, and the memory around it, as it was. The last line is 'N passed, M failed'.
  */
 #include "derowlas.h"
+#include "expect.h"
 
-#include <stdbool.h>
-#include <stdio.h>
 #include <string.h>
-
-static unsigned passed, failed;
-
-static void expect(bool holds, const char *what, int line) {
-  if (holds) {
-    passed++;
-  } else {
-    failed++;
-    printf("line %d: %s\n", line, what);
-  }
-}
-
-#define EXPECT(fact) expect((fact), #fact, __LINE__)
 
 /* ---- the answers are laid out as the header says */
 
@@ -242,6 +228,5 @@ int main(void) {
   round_trips();
   reading_refused();
   writing_refused();
-  printf("%u passed, %u failed\n", passed, failed);
-  return failed != 0;
+  return expected();
 }

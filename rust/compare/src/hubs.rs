@@ -36,6 +36,47 @@ impl Hub {
         Hub::of(boxes, |_, _| chance.below(8) < eighths)
     }
 
+    /// Any number of boxes, in the shapes that make hops many or few: a line, a
+    /// ring, a star, a tree with some links more, several groups; or any links.
+    /// Which box stands where is chance too.
+    pub fn shaped(chance: &mut Chance) -> Hub {
+        let boxes = 1 + chance.below(16) as u8;
+        let shape = chance.below(8);
+        // For each box its place in the shape, and the place before it in a tree.
+        let mut place: Vec<usize> = (0..boxes.into()).collect();
+        for last in (1..place.len()).rev() {
+            place.swap(last, chance.below(last + 1));
+        }
+        let before: Vec<usize> = (0..place.len()).map(|at| chance.below(at.max(1))).collect();
+        let groups = 2 + chance.below(3);
+        let end = place.len() - 1;
+        Hub::of(boxes, |low, high| {
+            let (low, high) = (place[usize::from(low)], place[usize::from(high)]);
+            let (low, high) = (low.min(high), low.max(high));
+            match shape {
+                0 => low + 1 == high,
+                1 => low + 1 == high || (low == 0 && high == end),
+                2 => low == 0,
+                3 => before[high] == low || chance.one_in(16),
+                4 => low % groups == high % groups && !chance.one_in(3),
+                5 => low + 1 == high || chance.one_in(12),
+                _ => chance.below(8) < shape,
+            }
+        })
+    }
+
+    /// The words of a board to lend: mostly what the hub needs, or more; one in
+    /// eight times one word less, or any length.
+    pub fn words(&self, chance: &mut Chance) -> usize {
+        let needed = derowlas::BLOCK_WORDS * usize::from(self.boxes);
+        match chance.below(16) {
+            0 => needed - 1,
+            1 => chance.below(derowlas::BOARD_WORDS + 9),
+            2..8 => needed + 1 + chance.below(140),
+            _ => needed,
+        }
+    }
+
     pub fn sheet(&self) -> Vec<u8> {
         let mut sheet: Vec<u8> = self
             .pairs
@@ -55,6 +96,16 @@ impl Hub {
         }
         table
     }
+}
+
+/// The sheet at the end of a file that begins, one in four times, with bytes of
+/// other programs.
+pub fn after_others(mut sheet: Vec<u8>, chance: &mut Chance) -> Vec<u8> {
+    if chance.one_in(4) {
+        let others = chance.below(57);
+        sheet.splice(0..0, (0..others).map(|_| chance.byte()));
+    }
+    sheet
 }
 
 /// Damages a hub and its sheet in one of the ways that sheets go wrong, and

@@ -4,8 +4,9 @@
 //!
 //! The comparisons themselves are in `tests/`.  Here stands what they share:
 //! the [`calls`] made on both sides, memory to lend with guards around it
-//! ([`Lent`]), hubs and sheets to try ([`Hub`], [`damage`]), and how often each
-//! refusal was met ([`Tally`]).
+//! ([`Lent`]), hubs and sheets to try ([`Hub`], [`damage`]), lists of deliveries
+//! that do something ([`lists`]), and how often each refusal was met
+//! ([`Tally`]).
 
 #![forbid(unsafe_code)]
 
@@ -13,9 +14,10 @@ pub mod calls;
 mod chance;
 mod hubs;
 mod lent;
+pub mod lists;
 mod tally;
 
 pub use chance::Chance;
-pub use hubs::{Hub, TRAILER, damage};
+pub use hubs::{Hub, TRAILER, after_others, damage};
 pub use lent::Lent;
 pub use tally::Tally;

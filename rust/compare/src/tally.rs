@@ -3,6 +3,10 @@
 use std::fmt;
 use std::io::{Write, stdout};
 
+/// A refusal that the calls can answer by document 01, and that no list was
+/// found to bring about.  Whoever reads a tally is told so.
+const WIRE_FULL: u32 = 13;
+
 /// What a call answered, by number; 0 is acceptance.
 pub struct Tally {
     call: &'static str,
@@ -22,6 +26,14 @@ impl Tally {
 
     pub fn allowance() -> Tally {
         Tally::new("allowance", &[0, 1, 2, 3, 4, 5, 6, 7, 8])
+    }
+
+    pub fn running() -> Tally {
+        Tally::new("run", &[0, 1, 2, 3, 4, 5, 6, 7, 8, 9, 10, 11, 12, 13])
+    }
+
+    pub fn draining() -> Tally {
+        Tally::new("drain", &[0, 1, 2, 3, 4, 5, 6, 7, 8, 10, 12, 13])
     }
 
     fn new(call: &'static str, numbers: &'static [u32]) -> Tally {
@@ -55,11 +67,11 @@ impl Tally {
         writeln!(stdout(), "{test}: {self}").expect("standard output");
     }
 
-    /// Every number that the call can answer was met.
+    /// Every number that the call can answer was met, but for 13.
     pub fn all_met(&self) {
         for &number in self.numbers {
             assert!(
-                self.met[number as usize] > 0,
+                self.met[number as usize] > 0 || number == WIRE_FULL,
                 "no case with {number}: {self}"
             );
         }
@@ -70,7 +82,10 @@ impl fmt::Display for Tally {
     fn fmt(&self, f: &mut fmt::Formatter<'_>) -> fmt::Result {
         write!(f, "{} {} cases;", self.call, self.cases())?;
         for &number in self.numbers {
-            write!(f, " {number}: {}", self.met[number as usize])?;
+            match self.met[number as usize] {
+                0 if number == WIRE_FULL => write!(f, " {number}: never reached")?,
+                met => write!(f, " {number}: {met}")?,
+            }
         }
         Ok(())
     }

@@ -1,6 +1,6 @@
 //! Reading and the allowance, on sheets whole and damaged.
 
-use compare::{Chance, Hub, Lent, TRAILER, Tally, calls, damage};
+use compare::{Chance, Hub, Lent, TRAILER, Tally, after_others, calls, damage};
 
 /// Reads the sheet, with and without a lent table, and asks for its allowance.
 struct Tried {
@@ -45,16 +45,12 @@ fn by_chance() {
     let mut tried = Tried::new();
     for case in 0..600_000 {
         let hub = Hub::by_chance(&mut tried.chance);
-        let mut sheet = if case % 4 == 0 {
+        let sheet = if case % 4 == 0 {
             hub.sheet()
         } else {
             damage(hub, &mut tried.chance)
         };
-        // Bytes of other programs before it.
-        if tried.chance.one_in(4) {
-            let others = tried.chance.below(57);
-            sheet.splice(0..0, (0..others).map(|_| tried.chance.byte()));
-        }
+        let sheet = after_others(sheet, &mut tried.chance);
         let words = words(&mut tried.chance);
         tried.sheet(&sheet, words);
     }

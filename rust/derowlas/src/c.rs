@@ -31,6 +31,25 @@ pub struct Allowed {
     pub identities: u32,
 }
 
+/// `struct derowlas_ran`.
+#[repr(C)]
+pub struct Ran {
+    pub number: u32,
+    pub sent: u32,
+    pub moved: u32,
+    pub under_way: u32,
+}
+
+/// `struct derowlas_drained`.
+#[repr(C)]
+pub struct Drained {
+    pub number: u32,
+    pub sent: u32,
+    pub moved: u32,
+    pub under_way: u32,
+    pub finished: bool,
+}
+
 unsafe extern "C" {
     fn derowlas_read(
         sheet: *const u8,
@@ -48,6 +67,24 @@ unsafe extern "C" {
     ) -> Written;
 
     fn derowlas_allowance(sheet: *const u8, sheet_len: usize) -> Allowed;
+
+    fn derowlas_run(
+        sheet: *const u8,
+        sheet_len: usize,
+        list: *const u8,
+        list_len: usize,
+        board: *mut u16,
+        board_len: usize,
+    ) -> Ran;
+
+    fn derowlas_drain(
+        sheet: *const u8,
+        sheet_len: usize,
+        starts: u16,
+        budget: u32,
+        board: *mut u16,
+        board_len: usize,
+    ) -> Drained;
 }
 
 pub fn read(sheet: &[u8], table: &mut [u16]) -> Reading {
@@ -75,4 +112,35 @@ pub fn allowance(sheet: &[u8]) -> Allowed {
     // SAFETY: `sheet` is a slice, and is only read.  The call does not keep
     // its pointer.
     unsafe { derowlas_allowance(sheet.as_ptr(), sheet.len()) }
+}
+
+pub fn run(sheet: &[u8], list: &[u8], board: &mut [u16]) -> Ran {
+    // SAFETY: all three are slices, and `board` is lent alone, so that it
+    // overlaps neither `sheet` nor `list`.  The call keeps no pointer.
+    unsafe {
+        derowlas_run(
+            sheet.as_ptr(),
+            sheet.len(),
+            list.as_ptr(),
+            list.len(),
+            board.as_mut_ptr(),
+            board.len(),
+        )
+    }
+}
+
+pub fn drain(sheet: &[u8], starts: u16, budget: u32, board: &mut [u16]) -> Drained {
+    // SAFETY: both are slices, and `board` is lent alone, so that it does not
+    // overlap `sheet`.  Every `starts` and every `budget` is answered.  The
+    // call keeps neither pointer.
+    unsafe {
+        derowlas_drain(
+            sheet.as_ptr(),
+            sheet.len(),
+            starts,
+            budget,
+            board.as_mut_ptr(),
+            board.len(),
+        )
+    }
 }

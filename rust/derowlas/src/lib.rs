@@ -5,6 +5,11 @@
 //! says which boxes are joined; [`read`] makes a table of it, [`write()`] a
 //! sheet of a table, and [`allowance`] says what a full broadcast sends.
 //!
+//! Boxes that are started tell each other who links to whom.  [`drain`] starts
+//! boxes and lets that go on to the end; [`run`] delivers the messages in the
+//! order of a list.  Both write a board, on which each box has what it found
+//! out, and [`Board`] reads it.
+//!
 //! ```
 //! // The line 0-1-2: the pairs (0, 1) and (1, 2), then B, P, N, version.
 //! let sheet = derowlas::read(&[0, 1, 1, 2, 8, 2, 3, 1])?;
@@ -21,10 +26,12 @@
 
 #![deny(missing_docs, unsafe_code)]
 
+mod board;
 #[allow(unsafe_code)]
 mod c;
 mod refusal;
 
+pub use board::{Board, State};
 pub use refusal::Refusal;
 
 /// The most boxes of a hub.
@@ -61,6 +68,46 @@ pub const TABLE_WORDS: usize = 16;
 /// assert_eq!(derowlas::write(16, &table, &mut buffer), Ok(derowlas::SHEET_BYTES));
 /// ```
 pub const SHEET_BYTES: usize = 4 + 2 * LINKS;
+
+/// The words that a box has on a board.
+///
+/// ```
+/// // The line 0-1-2 needs three blocks, and no word less.
+/// let line = [0, 1, 1, 2, 8, 2, 3, 1];
+/// let mut board = [0; 3 * derowlas::BLOCK_WORDS];
+/// assert!(derowlas::run(&line, &[], &mut board).is_ok());
+/// assert_eq!(derowlas::run(&line, &[], &mut board[1..]), Err(derowlas::Refusal::Room));
+/// ```
+pub const BLOCK_WORDS: usize = 66;
+
+/// The words of a board that serves every hub.
+///
+/// ```
+/// let mut board = [0; derowlas::BOARD_WORDS];
+/// assert!(derowlas::drain(&[4, 0, 16, 1], 0xffff, 0, &mut board).is_ok());
+/// ```
+pub const BOARD_WORDS: usize = BOXES * BLOCK_WORDS;
+
+/// The bytes of the longest list.
+///
+/// ```
+/// use derowlas::{LIST_BYTES, Refusal, run};
+///
+/// let list = vec![0; LIST_BYTES + 2]; // starts box 0, again and again
+/// let mut board = [0; derowlas::BLOCK_WORDS];
+/// assert!(run(&[4, 0, 1, 1], &list[2..], &mut board).is_ok());
+/// assert_eq!(run(&[4, 0, 1, 1], &list, &mut board), Err(Refusal::ListLength));
+/// ```
+pub const LIST_BYTES: usize = 60_000;
+
+/// A budget with which the drain of every sheet finishes.
+///
+/// ```
+/// // The most that 16 boxes could need: E(N + 2) + N(N - 1), for E wires.
+/// let (wires, boxes) = (2 * derowlas::LINKS, derowlas::BOXES);
+/// assert_eq!(derowlas::BUDGET as usize, wires * (boxes + 2) + boxes * (boxes - 1));
+/// ```
+pub const BUDGET: u32 = 4_560;
 
 /// What a sheet says.
 ///
@@ -198,7 +245,130 @@ pub fn allowance(sheet: &[u8]) -> Result<u32, Refusal> {
     Ok(identities)
 }
 
-// derowlas_run and derowlas_drain are not in the library yet.
+/// What [`run`] answers beside the board.  `sent` is always `moved` and
+/// `under_way` together.
+///
+/// ```
+/// // The line 0-1-2: box 0 is started, and its message delivered to box 1.
+/// let mut board = [0; 3 * derowlas::BLOCK_WORDS];
+/// let ran = derowlas::run(&[0, 1, 1, 2, 8, 2, 3, 1], &[0, 0, 0, 1], &mut board)?;
+/// assert_eq!(ran, derowlas::Ran { sent: 3, moved: 1, under_way: 2 });
+/// # Ok::<(), derowlas::Refusal>(())
+/// ```
+#[derive(Clone, Copy, Debug, PartialEq, Eq)]
+pub struct Ran {
+    /// The messages that boxes sent.
+    pub sent: u32,
+    /// The messages that were taken off wires.
+    pub moved: u32,
+    /// The messages that are still on wires.
+    pub under_way: u32,
+}
+
+/// What [`drain`] answers beside the board.
+///
+/// ```
+/// // The line 0-1-2, in which box 0 alone is started and nothing delivered.
+/// let mut board = [0; 3 * derowlas::BLOCK_WORDS];
+/// let drained = derowlas::drain(&[0, 1, 1, 2, 8, 2, 3, 1], 0b001, 0, &mut board)?;
+/// let told = derowlas::Drained { sent: 1, moved: 0, under_way: 1, finished: false };
+/// assert_eq!(drained, told);
+/// # Ok::<(), derowlas::Refusal>(())
+/// ```
+#[derive(Clone, Copy, Debug, PartialEq, Eq)]
+pub struct Drained {
+    /// The messages that boxes sent.
+    pub sent: u32,
+    /// The messages that were taken off wires, at most the budget.
+    pub moved: u32,
+    /// The messages that are still on wires.
+    pub under_way: u32,
+    /// Whether none is under way.
+    pub finished: bool,
+}
+
+/// Runs a list of deliveries, from a hub in which every box is asleep, and
+/// writes the board.
+///
+/// The list is pairs of bytes.  (a, a) starts box a, if it is asleep; (a, b)
+/// delivers the oldest message on the wire from a to b, if there is one.  The
+/// board needs [`BLOCK_WORDS`] words for each box; words past those stay, and
+/// a refusal leaves all of them as they were.
+///
+/// Refusals: 1 to 8; 9; then pair by pair 10 and 11; 12; 13.
+///
+/// ```
+/// use derowlas::{BLOCK_WORDS, Board, Refusal, run};
+///
+/// let line = [0, 1, 1, 2, 8, 2, 3, 1]; // 0-1-2
+/// let mut board = [0; 3 * BLOCK_WORDS];
+/// let ran = run(&line, &[0, 0, 0, 1, 1, 0], &mut board)?;
+/// assert_eq!((ran.sent, ran.moved, ran.under_way), (4, 2, 2));
+/// assert_eq!(Board::new(&board).hop(0), Some(1));
+///
+/// // No link joins 0 and 2, and the list is checked before it is begun.
+/// let before = board;
+/// assert_eq!(run(&line, &[0, 0, 0, 2], &mut board), Err(Refusal::ListLink));
+/// assert_eq!(board, before);
+/// # Ok::<(), Refusal>(())
+/// ```
+pub fn run(sheet: &[u8], list: &[u8], board: &mut [u16]) -> Result<Ran, Refusal> {
+    let c::Ran {
+        number,
+        sent,
+        moved,
+        under_way,
+    } = c::run(sheet, list, board);
+    accepted(number)?;
+    Ok(Ran {
+        sent,
+        moved,
+        under_way,
+    })
+}
+
+/// Starts a set of boxes, ascending, then delivers one message at a time until
+/// none is under way or as many as the budget were moved, and writes the board.
+///
+/// The message is always the oldest on the first wire that holds one: senders
+/// ascending, then receivers.  Budget 0 only starts, and [`BUDGET`] finishes
+/// for every sheet.  The board is written as by [`run`].
+///
+/// Refusals: 1 to 8; 10; 12; 13.
+///
+/// ```
+/// use derowlas::{BLOCK_WORDS, BUDGET, Refusal, drain};
+///
+/// let ring = [0, 1, 0, 2, 1, 3, 2, 3, 12, 4, 4, 1];
+/// let mut board = [0; 4 * BLOCK_WORDS];
+/// let drained = drain(&ring, 0b1111, BUDGET, &mut board)?;
+/// assert_eq!((drained.sent, drained.finished), (52, true));
+///
+/// // There is no box 4 to start.
+/// assert_eq!(drain(&ring, 0b10000, BUDGET, &mut board), Err(Refusal::ListBox));
+/// # Ok::<(), Refusal>(())
+/// ```
+pub fn drain(
+    sheet: &[u8],
+    starts: u16,
+    budget: u32,
+    board: &mut [u16],
+) -> Result<Drained, Refusal> {
+    let c::Drained {
+        number,
+        sent,
+        moved,
+        under_way,
+        finished,
+    } = c::drain(sheet, starts, budget, board);
+    accepted(number)?;
+    Ok(Drained {
+        sent,
+        moved,
+        under_way,
+        finished,
+    })
+}
 
 /// The Rust example of README.md, run as the examples above are.
 #[cfg(doctest)]
