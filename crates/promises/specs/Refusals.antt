@@ -1,0 +1,110 @@
+-- A run or a drain gives the number of the first line that applies, and 0 where none does. Assumes nothing.
+use Prim.Native.Nat.{ℕ, zero, suc, _+_, _*_, _/_, _%_, _≤_, _<_}
+use mathlib.Core.Path.{_≡_, refl, sym, _∙_}
+use mathlib.Core.Bool.{Bool, true, false, true≢false}
+use mathlib.Core.List.{List, [], _∷_, _++_}
+use mathlib.Core.Logic.{inl}
+use native.Mathlib.Omega.{arith}
+use lib.Dec.{eqb, ltb, lit≤}
+use lib.ListN.{length, take, drop}
+use lib.Seq.{take-all}
+use Rattle.rules.specs.Sets.{mem, word}
+use Rattle.rules.specs.Outcome.{Outcome, refused, accepted, andThen}
+use Rattle.rules.specs.Sheet.{Sheet, readSheet}
+use Rattle.rules.specs.Hub.{Hub, sleeping, run, drain, startAll}
+use Rattle.rules.specs.Calls.{hubAnswer, checkPairs, fitting, running, draining, onSheet, runCall, drainCall, longestList}
+use Rattle.sheet_laws.specs.Conditions.{Line, line, N, sheetLines}
+use Rattle.sheet_laws.specs.Answers.{Tests, ltb-tests, leb-tests, eqb-tests, not-tests, or-tests, and-tests, Answers, accepted-answers, refuse-answers, then-answers}
+use Rattle.sheet_laws.specs.Refusals.{two-more, readSheet-answers}
+use Rattle.sheet_laws.specs.Numbers.{numberOf, Numbered, numbered-append, sheet-numbered, Counted, counted}
+use Rattle.promises.specs.Said.{Call, listed, drained, answer, tableOf, hubOf}
+use Rattle.promises.specs.Conditions.{firstOf, secondOf, Cond9, Cond12, Cond13, listLines, askLines, callLines}
+use Rattle.promises.specs.High.{high-tests}
+use Rattle.promises.specs.Opens.{table-read, boxes-read}
+
+-- ---- the tests
+
+true-tests : (b : Bool) → Tests b (b ≡ true)
+true-tests b = record { holds = λ e. e; fails = λ e h. true≢false (sym h ∙ e) }
+
+-- 12 and 13
+abbrev roomLines : ℕ → List ℕ → Hub → List Line
+roomLines n board h = line 12 0 (length board < 66 * n) ∷ line 13 0 (h .full ≡ true) ∷ []
+
+fitting-answers : (n : ℕ) (board : List ℕ) (h : Hub) → Answers (fitting 16 n board h) (roomLines n board h)
+unfolding fitting
+fitting-answers n board h =
+    refuse-answers _ 12 0 _ _ (ltb-tests (length board) (66 * n)) (λ c12. refuse-answers _ 13 0 _ _ (true-tests (h .full)) (λ c13. accepted-answers h))
+
+-- 10 and 11, pair by pair, before what comes after the list
+module _ {A : Type 0} (s l : List ℕ) (o : Outcome A) (ls : List Line) (after : Answers o ls) where
+  check-answers : (m i : ℕ) → 2 * (i + m) ≤ length l → Answers (checkPairs (N s) (tableOf s) i (take (2 * m) (drop (2 * i) l)) o) (listLines s l i m ++ ls)
+  unfolding checkPairs
+  check-answers zero i h = after
+  check-answers (suc m) i h =
+      let k : 2 * i + 2 ≡ 2 * suc i = omega arith in
+      rw (two-more l (2 * i) m (omega arith), k)
+      (refuse-answers _ 10 i _ _ (or-tests _ _ (leb-tests (N s) (firstOf l i)) (leb-tests (N s) (secondOf l i))) (λ c10.
+      refuse-answers _ 11 i _ _
+      (and-tests _ _ (not-tests _ (eqb-tests (firstOf l i) (secondOf l i))) (not-tests _ (true-tests (mem (secondOf l i) (word (tableOf s) (firstOf l i)))))) (λ c11.
+      check-answers m (suc i) (omega arith))))
+
+  list-answers : length l % 2 ≡ 0 → Answers (checkPairs (N s) (tableOf s) 0 l o) (listLines s l 0 (length l / 2) ++ ls)
+  list-answers e =
+      rw (take-all (2 * (length l / 2)) l (omega arith)) at (check-answers (length l / 2) 0 (omega arith))
+
+-- ---- the calls
+
+even : (n : ℕ) → ((n % 2 ≡ 1) → ⊥) → n % 2 ≡ 0
+even n h = omega arith
+
+run-answers : (s l board : List ℕ) (r : Sheet) → readSheet 16 s ≡ accepted r
+    → Answers (running 16 20 l board r) (askLines s (listed l) ++ (line 12 0 (Cond12 s board) ∷ line 13 0 (Cond13 s (listed l)) ∷ []))
+unfolding running
+run-answers s l board r e =
+    rw (boxes-read s r e, ← table-read s r e)
+    (refuse-answers _ 9 0 _ _ (or-tests _ _ (eqb-tests (length l % 2) 1) (ltb-tests longestList (length l))) (λ c9.
+    list-answers s l _ _ (fitting-answers (N s) board (hubOf s (listed l))) (even (length l) (λ o. c9 (inl o)))))
+
+drain-answers : (s : List ℕ) (starts budget : ℕ) (board : List ℕ) (r : Sheet) → readSheet 16 s ≡ accepted r
+    → Answers (draining 16 20 starts budget board r)
+    (askLines s (drained starts budget) ++ (line 12 0 (Cond12 s board) ∷ line 13 0 (Cond13 s (drained starts budget)) ∷ []))
+unfolding draining
+drain-answers s starts budget board r e =
+    rw (boxes-read s r e, ← table-read s r e)
+    (refuse-answers _ 10 0 _ _ (high-tests (N s) starts) (λ c10. fitting-answers (N s) board (hubOf s (drained starts budget))))
+
+-- the lines have numbers from 1 on
+list-numbered : (s l : List ℕ) (m i : ℕ) → Numbered (listLines s l i m)
+list-numbered s l zero i = tt
+list-numbered s l (suc m) i = (lit≤ tt, (lit≤ tt, list-numbered s l m (suc i)))
+
+ask-numbered : (s : List ℕ) (call : Call) → Numbered (askLines s call)
+ask-numbered s (listed l) = (lit≤ tt, list-numbered s l (length l / 2) 0)
+ask-numbered s (drained starts budget) = (lit≤ tt, tt)
+
+-- the number of a call is that of its outcome
+hub-same : (n : ℕ) (board : List ℕ) (p : Outcome Hub) → numberOf p ≡ (hubAnswer 16 n board p) .number
+unfolding hubAnswer
+hub-same n board (refused m q) = refl
+hub-same n board (accepted h) = refl
+
+sheet-same : (board : List ℕ) (f : Sheet → Outcome Hub) (o : Outcome Sheet) → numberOf (andThen o f) ≡ (onSheet 16 board f o) .number
+unfolding onSheet andThen hubAnswer
+sheet-same board f (refused m q) = refl
+sheet-same board f (accepted r) = hub-same (r .boxes) board (f r)
+
+call-counted : (s : List ℕ) (call : Call) (board : List ℕ) (f : Sheet → Outcome Hub)
+    → ((r : Sheet) → readSheet 16 s ≡ accepted r → Answers (f r) (askLines s call ++ (line 12 0 (Cond12 s board) ∷ line 13 0 (Cond13 s call) ∷ [])))
+    → Counted ((onSheet 16 board f (readSheet 16 s)) .number) (callLines s call board)
+call-counted s call board f a =
+    rw (sheet-same board f (readSheet 16 s)) at
+    (counted (andThen (readSheet 16 s) f) (callLines s call board)
+    (numbered-append (sheetLines 16 s) _ (sheet-numbered 16 s) (numbered-append (askLines s call) _ (ask-numbered s call) (lit≤ tt, (lit≤ tt, tt))))
+    (then-answers (readSheet 16 s) f _ _ (readSheet-answers s 16) a))
+
+pub call-number : (s : List ℕ) (call : Call) (board : List ℕ) → Counted ((answer s call board) .number) (callLines s call board)
+unfolding runCall drainCall
+call-number s (listed l) board = call-counted s (listed l) board (running 16 20 l board) (run-answers s l board)
+call-number s (drained starts budget) board =
+    call-counted s (drained starts budget) board (draining 16 20 starts budget board) (drain-answers s starts budget board)
