@@ -3,3 +3,6 @@ pub mod Conditions
 pub mod High
 pub mod Opens
 pub mod Refusals
+pub mod Blocks
+pub mod Routes
+pub mod Most
