@@ -6,3 +6,4 @@ pub mod Refusals
 pub mod Blocks
 pub mod Routes
 pub mod Most
+pub mod Shown

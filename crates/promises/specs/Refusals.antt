@@ -3,7 +3,7 @@ use Prim.Native.Nat.{ℕ, zero, suc, _+_, _*_, _/_, _%_, _≤_, _<_}
 use mathlib.Core.Path.{_≡_, refl, sym, _∙_}
 use mathlib.Core.Bool.{Bool, true, false, true≢false}
 use mathlib.Core.List.{List, [], _∷_, _++_}
-use mathlib.Core.Logic.{inl}
+use mathlib.Core.Logic.{inl, ⊎-elim, _≢_}
 use native.Mathlib.Omega.{arith}
 use lib.Dec.{eqb, ltb, lit≤}
 use lib.ListN.{length, take, drop}
@@ -13,14 +13,17 @@ use Rattle.rules.specs.Outcome.{Outcome, refused, accepted, andThen}
 use Rattle.rules.specs.Sheet.{Sheet, readSheet}
 use Rattle.rules.specs.Hub.{Hub, sleeping, run, drain, startAll}
 use Rattle.rules.specs.Calls.{hubAnswer, checkPairs, fitting, running, draining, onSheet, runCall, drainCall, longestList}
-use Rattle.sheet_laws.specs.Conditions.{Line, line, N, sheetLines}
-use Rattle.sheet_laws.specs.Answers.{Tests, ltb-tests, leb-tests, eqb-tests, not-tests, or-tests, and-tests, Answers, accepted-answers, refuse-answers, then-answers}
+use Rattle.sheet_laws.specs.Conditions.{Line, line, First, None, N, P, pairLines, sheetLines}
+use Rattle.sheet_laws.specs.Answers.{Tests, ltb-tests, leb-tests, eqb-tests, not-tests, or-tests, and-tests, Answers, accepted-answers, refuse-answers, then-answers, none-append, first-append}
 use Rattle.sheet_laws.specs.Refusals.{two-more, readSheet-answers}
 use Rattle.sheet_laws.specs.Numbers.{numberOf, Numbered, numbered-append, sheet-numbered, Counted, counted}
+use Rattle.order.specs.Terms.{Reached, begin}
+use Rattle.order.specs.Reached.{checked-names, run-reached, starts-reached, drain-reached}
+use Rattle.order.specs.Promises.{never-full}
 use Rattle.promises.specs.Said.{Call, listed, drained, answer, tableOf, hubOf}
 use Rattle.promises.specs.Conditions.{firstOf, secondOf, Cond9, Cond12, Cond13, listLines, askLines, callLines}
 use Rattle.promises.specs.High.{high-tests}
-use Rattle.promises.specs.Opens.{table-read, boxes-read}
+use Rattle.promises.specs.Opens.{table-read, boxes-read, good}
 
 -- ---- the tests
 
@@ -108,3 +111,51 @@ unfolding runCall drainCall
 call-number s (listed l) board = call-counted s (listed l) board (running 16 20 l board) (run-answers s l board)
 call-number s (drained starts budget) board =
     call-counted s (drained starts budget) board (draining 16 20 starts budget board) (drain-answers s starts budget board)
+
+-- ---- 13 is never given
+
+-- where no line of the sheet or of the list applies, starts and deliveries lead to the hub
+asked-reached : (s : List ℕ) (call : Call) → N s ≤ 16 → None (askLines s call) → Reached 16 20 (tableOf s) (hubOf s call)
+asked-reached s (listed l) h n =
+    let (a, e) = list-answers s l (accepted l) [] (accepted-answers l) (even (length l) (λ o. n .0 (inl o))) .accepts .1 (none-append (listLines s l 0 (length l / 2)) [] .1 (n .1, tt)) in
+    run-reached 16 20 (tableOf s) l (sleeping 16) (checked-names 16 (N s) (tableOf s) 0 l (accepted l) a h e .0) begin
+asked-reached s (drained starts budget) h n = drain-reached 16 20 (tableOf s) budget _ (starts-reached 16 20 (tableOf s) starts (sleeping 16) begin)
+
+pub never-21 : (s : List ℕ) (call : Call) → None (sheetLines 16 s) → None (askLines s call) → Cond13 s call → ⊥
+never-21 s call n m f =
+    let (r, e) = readSheet-answers s 16 .accepts .1 n in
+    let g = good s r e in
+    true≢false (sym f ∙ never-full 16 (tableOf s) (g .table) 20 (lit≤ tt) (hubOf s call) (asked-reached s call (g .few-boxes) m))
+
+-- no line has a number above m
+abbrev Upto : ℕ → List Line → Type 0
+Upto m [] = Unit {0}
+Upto m (l ∷ ls) = (l .number ≤ m) × Upto m ls
+
+upto-first : (m : ℕ) (ls : List Line) (n p : ℕ) → Upto m ls → First ls n p → n ≤ m
+upto-first m [] n p h = λ z. absurd z
+upto-first m (l ∷ ls) n p h = ⊎-elim (λ u. let (c, e, f) = u in omega (arith, h .0)) (λ u. upto-first m ls n p (h .1) (u .1))
+
+pairs-upto : (s : List ℕ) (m i : ℕ) → Upto 11 (pairLines s i m)
+pairs-upto s zero i = tt
+pairs-upto s (suc m) i = (lit≤ tt, (lit≤ tt, (lit≤ tt, pairs-upto s m (suc i))))
+
+list-upto : (s l : List ℕ) (m i : ℕ) → Upto 11 (listLines s l i m)
+list-upto s l zero i = tt
+list-upto s l (suc m) i = (lit≤ tt, (lit≤ tt, list-upto s l m (suc i)))
+
+ask-upto : (s : List ℕ) (call : Call) → Upto 11 (askLines s call)
+ask-upto s (listed l) = (lit≤ tt, list-upto s l (length l / 2) 0)
+ask-upto s (drained starts budget) = (lit≤ tt, tt)
+
+pub never-13 : (s : List ℕ) (call : Call) (board : List ℕ) → (answer s call board) .number ≢ 13
+never-13 s call board e =
+    let (p, f) = call-number s call board .first-number 12 .0 e in
+    ⊎-elim
+    (λ u. omega (arith, upto-first 11 (sheetLines 16 s) 13 p (lit≤ tt, (lit≤ tt, (lit≤ tt, (lit≤ tt, (lit≤ tt, pairs-upto s (P s) 0))))) u))
+    (λ u.
+    ⊎-elim
+    (λ v. omega (arith, upto-first 11 (askLines s call) 13 p (ask-upto s call) v))
+    (λ v. ⊎-elim (λ x. let (a, b, c) = x in omega arith) (λ x. ⊎-elim (λ y. never-21 s call (u .0) (v .0) (y .0)) (λ y. y .1) (x .1)) (v .1))
+    (first-append (askLines s call) _ 13 p .0 (u .1)))
+    (first-append (sheetLines 16 s) _ 13 p .0 f)

@@ -24,6 +24,10 @@ abbrev pub answer : List ℕ → Call → List ℕ → Ran
 answer sheet (listed list) board = runCall sheet list board
 answer sheet (drained starts budget) board = drainCall sheet starts budget board
 
+-- the lent board after the call
+abbrev pub after : List ℕ → Call → List ℕ → List ℕ
+after sheet call board = (answer sheet call board) .board
+
 -- the set of the boxes that the call itself starts: the pairs (a, a) of the list, or the start set
 abbrev pub starting : Call → ℕ
 starting (listed list) = startsOf 16 list
