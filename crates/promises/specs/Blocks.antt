@@ -75,8 +75,12 @@ module _ (b : Box) (s : Sized b) where
   unfolding block
   block-lists k =
       let e : 50 + k ≡ suc (suc (length (b .nodes) + (length (b .inSpt) + (length (b .notSpt) + k)))) = omega (arith, s .nodes, s .ins, s .nots) in
-      rw (e, getD-append-add (b .nodes) (b .inSpt ++ (b .notSpt ++ b .neighbors)) (length (b .inSpt) + (length (b .notSpt) + k)) 0,
-      getD-append-add (b .inSpt) (b .notSpt ++ b .neighbors) (length (b .notSpt) + k) 0, getD-append-add (b .notSpt) (b .neighbors) k 0)
+      rw (
+        e,
+        getD-append-add (b .nodes) (b .inSpt ++ (b .notSpt ++ b .neighbors)) (length (b .inSpt) + (length (b .notSpt) + k)) 0,
+        getD-append-add (b .inSpt) (b .notSpt ++ b .neighbors) (length (b .notSpt) + k) 0,
+        getD-append-add (b .notSpt) (b .neighbors) k 0,
+      )
 
 -- ---- the boxes of a hub
 

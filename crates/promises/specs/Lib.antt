@@ -7,3 +7,4 @@ pub mod Blocks
 pub mod Routes
 pub mod Most
 pub mod Shown
+pub mod Demands

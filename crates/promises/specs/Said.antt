@@ -104,3 +104,8 @@ pub record Takes (t : List ℕ) (i k j : ℕ) : Type 0 where
   pub near : Least t hops j k
   pub far : Least t (suc hops) i k
   pub lowest : (l : ℕ) → l < j → mem l (word t i) ≡ true → Least t hops l k → ⊥
+
+-- "whose farthest group member is e hops away"
+pub record Farthest (t : List ℕ) (i e : ℕ) : Type 0 where
+  pub there : (k : ℕ) × Least t e i k
+  pub most : (d k : ℕ) → Least t d i k → d ≤ e
