@@ -8,3 +8,4 @@ pub mod Routes
 pub mod Most
 pub mod Shown
 pub mod Demands
+pub mod Idle

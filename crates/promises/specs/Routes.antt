@@ -42,6 +42,12 @@ module _ (w : ℕ) (t : List ℕ) (s : Table w t) where
             omega (arith, far-most w t s i hi k hk (together-lt w t i k z));
       }
 
+  -- where links lead there is a least number of them, below w
+  pub leads-least : (i k : ℕ) → i < w → Leads t i k → (d : ℕ) × (d < w) × Least t d i k
+  leads-least i k hi u =
+      let h : hops w t i k < w = together-lt w t i k (together-walk w t s i k hi .1 u) in
+      (hops w t i k, h, hops-least w t s i k hi (omega arith))
+
   -- Nodes(d) of the tables at rest holds the boxes at d hops
   pub nodes-least : (i d k : ℕ) → i < w → d < w → (mem k (word ((atRest w t i) .nodes) d) ≡ true) ↔ Least t d i k
   nodes-least i d k hi hd = (
