@@ -1,10 +1,10 @@
 -- The board's words: what stands at a place of a row of blocks, and at a place of one block. Assumes nothing.
 use Prim.Native.Nat.{ℕ, zero, suc, _+_, _*_, _≤_, _<_}
-use mathlib.Core.Path.{_≡_, refl, sym, ap, _∙_}
-use mathlib.Core.List.{List, [], _∷_, _++_, append-assoc}
+use mathlib.Core.Path.{_≡_, refl, sym, _∙_}
+use mathlib.Core.List.{List, _++_, append-assoc}
 use native.Mathlib.Omega.{arith}
 use native.Mathlib.Decide.{ℕ-discrete}
-use lib.ListN.{length, take, drop, getD, replicate, length-append, length-drop, List·getD-append}
+use lib.ListN.{length, take, drop, replicate, length-append, length-drop, List·getD-append}
 use lib.Seq.{take-at, drop-at, getD-take, getD-drop, getD-append-add}
 use Rattle.rules.specs.Sets.{word, each}
 use Rattle.rules.specs.Box.{Msg, Box, asleep}
@@ -12,7 +12,7 @@ use Rattle.rules.specs.Hub.{block, boardOf, Hub}
 use Rattle.rules.specs.Rest.{Table, atRest}
 use Rattle.sets.specs.Loops.{length-words}
 use Rattle.order.specs.Terms.{Reached}
-use Rattle.order.specs.Invariant.{Tables, Seat, sleeps, wakes, rests, Sound}
+use Rattle.order.specs.Invariant.{Tables, Seat, sleeps, wakes, rests}
 use Rattle.order.specs.Reached.{sound}
 use Rattle.promises.specs.Said.{blockAt}
 

@@ -1,39 +1,36 @@
 -- The demands over the calls: for every sheet, list, start set, budget and lent board, what follows from the answer of a run or a drain. Each statement
 -- stands under the sentence of document 01 that it puts. The words are those of Said and Conditions, and of the rules. Assumes nothing.
-use Prim.Native.Nat.{ℕ, suc, _+_, _*_, _^_, _≤_, _<_}
+use Prim.Native.Nat.{ℕ, _+_, _*_, _≤_, _<_}
 use mathlib.Core.Path.{_≡_, refl, sym, ap, _∙_}
-use mathlib.Core.Bool.{true, false, cond}
+use mathlib.Core.Bool.{true, false}
 use mathlib.Core.List.{List, _++_}
 use mathlib.Core.Logic.{_⊎_, inl, inr, ⊎-elim, _≢_, _↔_}
 use native.Mathlib.Omega.{arith}
 use lib.Dec.{eqb}
 use lib.ListN.{length, drop, replicate}
 use Rattle.rules.specs.Sets.{mem, word, sum}
-use Rattle.rules.specs.Outcome.{accepted}
-use Rattle.rules.specs.Sheet.{readSheet}
 use Rattle.rules.specs.Box.{Msg}
-use Rattle.rules.specs.Hub.{Hub, noWire, block, underWay, startAll, sleeping}
-use Rattle.rules.specs.Calls.{drainCall}
-use Rattle.rules.specs.Rest.{Least, together, farthest, atRest, wireList, reached, sentAtRest, enough}
+use Rattle.rules.specs.Hub.{noWire, block, underWay, startAll, sleeping}
+use Rattle.rules.specs.Calls.{runCall, drainCall}
+use Rattle.rules.specs.Rest.{Least, together, farthest, atRest, wireList, wireCount, reached, sentAtRest, enough}
 use Rattle.sets.specs.Mem.{in-lt}
 use Rattle.sets.specs.Loops.{by-bool}
 use Rattle.sets.specs.Tables.{eqb-eq, eq-eqb, ne-eqb}
-use Rattle.order.specs.Terms.{begin, handed, SetsOnly, Final}
+use Rattle.order.specs.Terms.{begin, startsOf, handed, SetsOnly, Final}
 use Rattle.order.specs.Groups.{together-walk}
 use Rattle.order.specs.Promises
 use Rattle.sheet_laws.specs.Conditions.{None, N, P, Linked, sheetLines}
-use Rattle.sheet_laws.specs.LinksOf.{Names, links-of}
-use Rattle.sheet_laws.specs.Answers.{none-append}
-use Rattle.sheet_laws.specs.Refusals.{readSheet-answers}
+use Rattle.sheet_laws.specs.LinksOf.{Names}
 use Rattle.sheet_laws.specs.Numbers.{Counted}
 use Rattle.promises.specs.Said.{Call, listed, drained, answer, after, starting, tableOf, hubOf, Opened, blockAt, stateAt, hopAt, nodesAt, inAt, notAt, listAt, Leads, InStarted, Takes, Farthest}
-use Rattle.promises.specs.Conditions.{askLines, callLines, Cond13}
-use Rattle.promises.specs.Opens.{opened, table-read}
+use Rattle.promises.specs.Conditions.{firstOf, secondOf, askLines, callLines, Cond13}
+use Rattle.promises.specs.Opens.{opened}
 use Rattle.promises.specs.Refusals as Tests
 use Rattle.promises.specs.Blocks.{block-asleep, board-past, board-length}
-use Rattle.promises.specs.Routes.{takes-other, walk-below, rest-farthest, nodes-least, lists-group, lists-others, in-takes, one-taken, not-takes}
+use Rattle.promises.specs.Routes.{takes-other, walk-below, rest-farthest, leads-least, nodes-least, lists-group, lists-others, in-takes, one-taken, not-takes}
 use Rattle.promises.specs.Most.{enough-16}
-use Rattle.promises.specs.Shown as Shown
+use Rattle.promises.specs.Shown
+use Rattle.promises.specs.Starts
 
 -- ---- "Numbers given when the hub refuses"
 
@@ -58,9 +55,11 @@ module _ (sheet : List ℕ) (call : Call) (board : List ℕ) (ok : (answer sheet
 
   -- the table that the promises speak of has exactly the sheet's links
   pub links : (i j : ℕ) → Linked (tableOf sheet) i j ↔ ((k : ℕ) × (k < P sheet) × Names sheet k i j)
-  links i j =
-      let (r, e) = readSheet-answers sheet 16 .accepts .1 (none-append (sheetLines 16 sheet) _ .0 (number sheet call board .zero-none .0 ok) .0) in
-      rw (table-read sheet r e) (links-of 16 sheet r e i j)
+  links i j = Tests.call-links sheet call board ok i j
+
+  -- "It makes two wires, one each way": E, which `enough` multiplies, is 2P
+  pub wires : wireCount 16 (tableOf sheet) ≡ 2 * P sheet
+  wires = Tests.call-wires sheet call board ok
 
   -- ---- demand 2: the tables are right
 
@@ -117,6 +116,13 @@ module _ (sheet : List ℕ) (call : Call) (board : List ℕ) (ok : (answer sheet
     nodes d k hd =
         rw (Shown.rest-nodes (after sheet call board) (tableOf sheet) i block-rest d hd) (nodes-least 16 (tableOf sheet) (behind .table) i d k hi hd)
 
+    -- the box knows exactly the boxes that links lead to
+    pub group : (k : ℕ) → Leads (tableOf sheet) i k ↔ ((d : ℕ) × (d < 16) × (mem k (nodesAt i d (after sheet call board)) ≡ true))
+    group k = (
+      λ u. let (d, hd, l) = leads-least 16 (tableOf sheet) (behind .table) i k hi u in (d, hd, nodes d k hd .1 l),
+      λ x. let (d, hd, m) = x in (d, nodes d k hd .0 m .walk),
+    )
+
     -- "Neighbors(K) is K's link set, for the group; zero for all others."
     pub lists : (k : ℕ) → Leads (tableOf sheet) i k → listAt i k (after sheet call board) ≡ word (tableOf sheet) k
     lists k u =
@@ -132,12 +138,16 @@ module _ (sheet : List ℕ) (call : Call) (board : List ℕ) (ok : (answer sheet
     ins j k hj =
         rw (Shown.rest-ins (after sheet call board) (tableOf sheet) i block-rest j hj) (in-takes 16 (tableOf sheet) (behind .table) i j k hi hj)
 
-    -- so exactly one link comes in for each origin
-    pub one-in : (k : ℕ) → i ≢ k → Leads (tableOf sheet) i k → (j : ℕ) × Takes (tableOf sheet) i k j × ((l : ℕ) → Takes (tableOf sheet) i k l → l ≡ j)
-    one-in k z u = one-taken 16 (tableOf sheet) (behind .table) i k hi z u
+    -- so exactly one link comes in for each origin, and none for the box itself
+    pub one-in : (k : ℕ) → i ≢ k → Leads (tableOf sheet) i k
+        → (j : ℕ) × (j < 16) × (mem k (inAt i j (after sheet call board)) ≡ true) × ((l : ℕ) → l < 16 → mem k (inAt i l (after sheet call board)) ≡ true → l ≡ j)
+    one-in k z u =
+        let (j, x, f) = one-taken 16 (tableOf sheet) (behind .table) i k hi z u in
+        let hj : j < 16 = in-lt 16 (word (tableOf sheet) i) j (behind .table .small i) (x .linked) in
+        (j, hj, ins j k hj .1 x, λ l hl m. f l (ins l k hl .0 m))
 
-    pub none-itself : (j : ℕ) → Takes (tableOf sheet) i i j → ⊥
-    none-itself j x = takes-other (tableOf sheet) i i j x refl
+    pub not-itself : (j : ℕ) → j < 16 → mem i (inAt i j (after sheet call board)) ≡ true → ⊥
+    not-itself j hj m = takes-other (tableOf sheet) i i j (ins j i hj .0 m) refl
 
     -- "Not_SPT(J): the group without those K that J takes from I."
     pub nots : (j k : ℕ) → Linked (tableOf sheet) i j
@@ -259,6 +269,12 @@ module _ (sheet : List ℕ) (call : Call) (board : List ℕ) (ok : (answer sheet
       Promises.lists-else 16 (tableOf sheet) (behind .table) 20 Shown.wide (hubOf sheet call) (behind .reached) j k
       (⊎-elim (λ e. inl e) (λ f. inr (by-bool (together 16 (tableOf sheet) j k) (λ e. absurd (f (together-walk 16 (tableOf sheet) (behind .table) j k hj .0 e))) (λ e. e))) z)
 
+-- ---- "a = b starts box a": the set of the boxes that a list starts
+
+pub list-starts : (list : List ℕ) (k : ℕ) → k < 16
+    → (mem k (starting (listed list)) ≡ true) ↔ ((i : ℕ) × (2 * i + 1 < length list) × (firstOf list i ≡ k) × (secondOf list i ≡ k))
+list-starts = Starts.list-starts
+
 -- ---- the order of the deliveries leaves no trace: two calls, each a list or a drain, that start boxes of the same groups and leave none under way
 -- give the same answer altogether
 
@@ -268,6 +284,12 @@ pub order-leaves-no-trace : (sheet : List ℕ) (c d : Call) (board : List ℕ) �
     → answer sheet c board ≡ answer sheet d board
 order-leaves-no-trace sheet c d board p q u v e =
     Shown.same-answer sheet c d board (opened sheet c board p) (opened sheet d board q) p q u v e
+
+pub lists-alike : (sheet l m board : List ℕ) → (runCall sheet l board) .number ≡ 0 → (runCall sheet m board) .number ≡ 0
+    → (runCall sheet l board) .underWay ≡ 0 → (runCall sheet m board) .underWay ≡ 0
+    → ((i : ℕ) → i < N sheet → InStarted (tableOf sheet) (startsOf 16 l) i ↔ InStarted (tableOf sheet) (startsOf 16 m) i)
+    → runCall sheet l board ≡ runCall sheet m board
+lists-alike sheet l m board = order-leaves-no-trace sheet (listed l) (listed m) board
 
 -- ---- the drain
 

@@ -1,7 +1,7 @@
 -- A number of 2^n or above, as a set, has a member that is not below n; and one below 2^n has none. Assumes nothing.
-use Prim.Native.Nat.{ℕ, zero, suc, _+_, _*_, _/_, _^_, _≤_, _<_}
-use mathlib.Core.Path.{_≡_, refl, sym, _∙_}
-use mathlib.Core.Bool.{Bool, true, false}
+use Prim.Native.Nat.{ℕ, zero, suc, _/_, _^_, _≤_, _<_}
+use mathlib.Core.Path.{_≡_, _∙_}
+use mathlib.Core.Bool.{true}
 use native.Mathlib.Omega.{arith}
 use native.Mathlib.Decide.{decLe}
 use lib.Dec.{leb}

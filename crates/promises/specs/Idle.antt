@@ -1,6 +1,6 @@
 -- "Five idle programs have to be caught." Each is told by what all its answers would have in common, and the answers of the calls do not have it. The inputs
 -- are sample hubs of document 01, whose answers the theorem of the crate rules has. Assumes nothing.
-use Prim.Native.Nat.{ℕ, _+_, _*_, _≤_, _<_}
+use Prim.Native.Nat.{ℕ, _+_, _≤_, _<_}
 use mathlib.Core.Path.{_≡_, refl, sym, ap, _∙_}
 use mathlib.Core.List.{List, [], _∷_, map}
 use mathlib.Core.Logic.{_≢_}

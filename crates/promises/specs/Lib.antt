@@ -7,5 +7,6 @@ pub mod Blocks
 pub mod Routes
 pub mod Most
 pub mod Shown
+pub mod Starts
 pub mod Demands
 pub mod Idle

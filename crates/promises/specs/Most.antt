@@ -1,6 +1,6 @@
 -- The wires of a table: two for each link. The most of them, and the most messages that a drain needs: 4,560 for 16 boxes. Assumes nothing.
-use Prim.Native.Nat.{ℕ, zero, suc, _+_, _*_, _-_, _≤_, _<_}
-use mathlib.Core.Path.{_≡_, refl, sym, ap, _∙_}
+use Prim.Native.Nat.{ℕ, _+_, _*_, _-_, _≤_, _<_}
+use mathlib.Core.Path.{_≡_, refl, sym, _∙_}
 use mathlib.Core.Bool.{Bool, true, false, _&&_, true≢false}
 use mathlib.Core.List.{List}
 use mathlib.Core.Logic.{_≢_}
@@ -56,8 +56,8 @@ module _ (w : ℕ) (t : List ℕ) (s : Table w t) where
       elim (decLt i j) [
         | yes h ↦ rw (e, f, lt-ltb i j h, ge-ltb j i (omega arith))
         | no h ↦
-          let z : j ≢ i = λ q. true≢false (sym e ∙ rw q (s .apart i)) in
-          rw (e, f, ge-ltb i j (omega arith), lt-ltb j i (omega arith))
+            let z : j ≢ i = λ q. true≢false (sym e ∙ rw q (s .apart i)) in
+            rw (e, f, ge-ltb i j (omega arith), lt-ltb j i (omega arith))
       ])
       (λ e.
       let f : mem i (word t j) ≡ false = by-bool (mem i (word t j)) (λ q. absurd (true≢false (sym (s .both j i q) ∙ e))) (λ q. q) in

@@ -1,26 +1,25 @@
 -- An accepted run or drain, taken apart: its sheet was accepted, its list or start set checked, its board is long enough, and its answer is that of the hub
 -- that the definitions come to. Assumes nothing.
-use Prim.Native.Nat.{ℕ, zero, suc, _+_, _*_, _/_, _%_, _^_, _≤_, _<_}
-use mathlib.Core.Path.{_≡_, refl, sym, ap, subst, _∙_}
-use mathlib.Core.Bool.{Bool, true, false, not, _&&_, _||_, true≢false}
-use mathlib.Core.List.{List, [], _∷_}
+use Prim.Native.Nat.{ℕ, _*_, _%_, _^_, _≤_, _<_}
+use mathlib.Core.Path.{_≡_, refl, ap, _∙_}
+use mathlib.Core.Bool.{Bool, true, false, not, _||_, true≢false}
+use mathlib.Core.List.{List}
 use mathlib.Core.Logic.{_≢_}
 use native.Mathlib.Omega.{arith}
-use native.Mathlib.Decide.{decLe}
 use borrow.Author.Tests.{ltb-false, leb-false, eqb-false}
-use lib.Dec.{eqb, ltb, leb}
+use lib.Dec.{eqb, ltb}
 use lib.ListN.{length, replicate}
-use Rattle.rules.specs.Sets.{mem, word}
+use Rattle.rules.specs.Sets.{word}
 use Rattle.rules.specs.Outcome.{Outcome, refused, accepted, refuse, andThen}
 use Rattle.rules.specs.Sheet.{Sheet, readSheet}
-use Rattle.rules.specs.Hub.{Hub, sleeping, run, drain, startAll, underWay, boardOf}
-use Rattle.rules.specs.Calls.{Ran, reading, readAnswer, hubAnswer, checkPairs, fitting, running, draining, onSheet, readCall, runCall, drainCall, longestList}
+use Rattle.rules.specs.Hub.{Hub}
+use Rattle.rules.specs.Calls.{reading, readAnswer, hubAnswer, fitting, running, draining, onSheet, readCall, runCall, drainCall, longestList}
 use Rattle.rules.specs.Rest.{Table}
 use Rattle.calls.specs.Refused.{Numbered, sheet-numbered, running-numbered, draining-numbered}
 use Rattle.sheet_laws.specs.Conditions.{N}
 use Rattle.sheet_laws.specs.Pairs.{refuse-accepted}
-use Rattle.sheet_laws.specs.Accepted.{Accepted, accepted-sheet, accepted-same, Told, accepted-told}
-use Rattle.order.specs.Terms.{Reached, begin, Names}
+use Rattle.sheet_laws.specs.Accepted.{accepted-sheet, accepted-same, accepted-told}
+use Rattle.order.specs.Terms.{Reached, begin}
 use Rattle.order.specs.Reached.{checked-names, run-reached, starts-reached, drain-reached}
 use Rattle.promises.specs.Said.{Call, listed, drained, answer, tableOf, hubOf, Checked, Opened}
 use Rattle.promises.specs.High.{low-set}

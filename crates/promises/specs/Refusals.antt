@@ -1,29 +1,33 @@
 -- A run or a drain gives the number of the first line that applies, and 0 where none does. Assumes nothing.
 use Prim.Native.Nat.{ℕ, zero, suc, _+_, _*_, _/_, _%_, _≤_, _<_}
-use mathlib.Core.Path.{_≡_, refl, sym, _∙_}
-use mathlib.Core.Bool.{Bool, true, false, true≢false}
+use mathlib.Core.Path.{_≡_, refl, sym, ap, _∙_}
+use mathlib.Core.Bool.{Bool, true, true≢false}
 use mathlib.Core.List.{List, [], _∷_, _++_}
-use mathlib.Core.Logic.{inl, ⊎-elim, _≢_}
+use mathlib.Core.Logic.{inl, ⊎-elim, _≢_, _↔_}
 use native.Mathlib.Omega.{arith}
-use lib.Dec.{eqb, ltb, lit≤}
+use lib.Dec.{lit≤}
 use lib.ListN.{length, take, drop}
 use lib.Seq.{take-all}
 use Rattle.rules.specs.Sets.{mem, word}
 use Rattle.rules.specs.Outcome.{Outcome, refused, accepted, andThen}
 use Rattle.rules.specs.Sheet.{Sheet, readSheet}
-use Rattle.rules.specs.Hub.{Hub, sleeping, run, drain, startAll}
+use Rattle.rules.specs.Hub.{Hub, sleeping}
+use Rattle.rules.specs.Rest.{wireCount}
 use Rattle.rules.specs.Calls.{hubAnswer, checkPairs, fitting, running, draining, onSheet, runCall, drainCall, longestList}
-use Rattle.sheet_laws.specs.Conditions.{Line, line, First, None, N, P, pairLines, sheetLines}
+use Rattle.sheet_laws.specs.Conditions.{Line, line, First, None, N, P, Linked, pairLines, sheetLines}
 use Rattle.sheet_laws.specs.Answers.{Tests, ltb-tests, leb-tests, eqb-tests, not-tests, or-tests, and-tests, Answers, accepted-answers, refuse-answers, then-answers, none-append, first-append}
 use Rattle.sheet_laws.specs.Refusals.{two-more, readSheet-answers}
+use Rattle.sheet_laws.specs.Accepted.{accepted-sheet, accepted-told}
+use Rattle.sheet_laws.specs.LinksOf.{Names, links-of}
 use Rattle.sheet_laws.specs.Numbers.{numberOf, Numbered, numbered-append, sheet-numbered, Counted, counted}
 use Rattle.order.specs.Terms.{Reached, begin}
 use Rattle.order.specs.Reached.{checked-names, run-reached, starts-reached, drain-reached}
 use Rattle.order.specs.Promises.{never-full}
 use Rattle.promises.specs.Said.{Call, listed, drained, answer, tableOf, hubOf}
-use Rattle.promises.specs.Conditions.{firstOf, secondOf, Cond9, Cond12, Cond13, listLines, askLines, callLines}
+use Rattle.promises.specs.Conditions.{firstOf, secondOf, Cond12, Cond13, listLines, askLines, callLines}
 use Rattle.promises.specs.High.{high-tests}
 use Rattle.promises.specs.Opens.{table-read, boxes-read, good}
+use Rattle.promises.specs.Most.{two-wires}
 
 -- ---- the tests
 
@@ -159,3 +163,19 @@ never-13 s call board e =
     (λ v. ⊎-elim (λ x. let (a, b, c) = x in omega arith) (λ x. ⊎-elim (λ y. never-21 s call (u .0) (v .0) (y .0)) (λ y. y .1) (x .1)) (v .1))
     (first-append (askLines s call) _ 13 p .0 (u .1)))
     (first-append (sheetLines 16 s) _ 13 p .0 f)
+
+-- ---- the sheet of an accepted call
+
+module _ (s : List ℕ) (call : Call) (board : List ℕ) (ok : (answer s call board) .number ≡ 0) where
+  call-read : (r : Sheet) × (readSheet 16 s ≡ accepted r)
+  call-read = readSheet-answers s 16 .accepts .1 (none-append (sheetLines 16 s) _ .0 (call-number s call board .zero-none .0 ok) .0)
+
+  pub call-links : (i j : ℕ) → Linked (tableOf s) i j ↔ ((k : ℕ) × (k < P s) × Names s k i j)
+  call-links i j = let (r, e) = call-read in rw (table-read s r e) (links-of 16 s r e i j)
+
+  pub call-wires : wireCount 16 (tableOf s) ≡ 2 * P s
+  call-wires =
+      let (r, e) = call-read in
+      let a = accepted-told 16 s r e in
+      let p : r .links ≡ P s = ap (λ (x : Sheet). x .links) (accepted-sheet 16 s r e .answer) in
+      rw (table-read s r e) (two-wires 16 (r .table) (a .table-good) ∙ ap (λ (n : ℕ). 2 * n) (a .links-all ∙ p))

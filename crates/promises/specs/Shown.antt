@@ -1,23 +1,21 @@
 -- What the board of an accepted answer shows of the hub behind it, and the end of a call with none under way. Assumes nothing.
-use Prim.Native.Nat.{ℕ, zero, suc, _+_, _*_, _^_, _≤_, _<_}
+use Prim.Native.Nat.{ℕ, _+_, _*_, _≤_, _<_}
 use mathlib.Core.Path.{_≡_, refl, sym, ap, _∙_}
-use mathlib.Core.Bool.{Bool, true, false, _&&_, _||_, true≢false}
+use mathlib.Core.Bool.{Bool, true, false, _&&_, true≢false}
 use mathlib.Core.List.{List, [], _∷_, _++_}
 use mathlib.Core.Logic.{_↔_}
 use native.Mathlib.Omega.{arith}
-use native.Mathlib.Decide.{decLt}
 use lib.Dec.{eqb, lit≤}
-use lib.ListN.{length, drop}
-use lib.Pow.{pow-mono}
-use Rattle.rules.specs.Sets.{mem, word, each}
-use Rattle.rules.specs.Box.{Box, asleep}
+use lib.ListN.{drop}
+use Rattle.rules.specs.Sets.{mem, word}
+use Rattle.rules.specs.Box.{asleep}
 use Rattle.rules.specs.Hub.{Hub, sleeping, start, startAll, block, boardOf, underWay}
 use Rattle.rules.specs.Calls.{Ran}
-use Rattle.rules.specs.Rest.{Table, hops, together, atRest, reached}
+use Rattle.rules.specs.Rest.{atRest, reached}
 use Rattle.sets.specs.Mem.{in-lt, and-both}
 use Rattle.sets.specs.Tables.{eqb-eq}
 use Rattle.sets.specs.Loops.{by-bool, each-same, forEach-keeps}
-use Rattle.order.specs.Terms.{Reached, Names, asks, startsOf, Final, Alike}
+use Rattle.order.specs.Terms.{Names, asks, Final, Alike}
 use Rattle.order.specs.Started.{starts-is}
 use Rattle.order.specs.Rest.{together-lt}
 use Rattle.order.specs.Groups.{group-low, reached-out}
