@@ -4,6 +4,7 @@ use Prim.Native.Nat.{ℕ, suc, _+_, _*_, _%_, _^_, _≤_, _<_}
 use mathlib.Core.Path.{_≡_}
 use mathlib.Core.Bool.{true}
 use mathlib.Core.List.{List}
+use mathlib.Core.Logic.{_↔_}
 use lib.Dec.{eqb}
 use lib.ListN.{length, take, drop, replicate}
 use Rattle.rules.specs.Sets.{mem, word}
@@ -96,6 +97,10 @@ Leads t i k = (n : ℕ) × Walk t n i k
 -- box i is of a group in which a box of the set x is started
 abbrev pub InStarted : List ℕ → ℕ → ℕ → Type 0
 InStarted t x i = (k : ℕ) × (mem k x ≡ true) × Leads t k i
+
+-- x and y start boxes of the same groups
+abbrev pub SameGroups : List ℕ → ℕ → ℕ → Type 0
+SameGroups sheet x y = (i : ℕ) → i < N sheet → InStarted (tableOf sheet) x i ↔ InStarted (tableOf sheet) y i
 
 -- "J is the lowest-numbered neighbour one hop nearer to K": i takes k from j
 pub record Takes (t : List ℕ) (i k j : ℕ) : Type 0 where

@@ -3,26 +3,26 @@ use Prim.Native.Nat.{ℕ, _+_, _*_, _≤_, _<_}
 use mathlib.Core.Path.{_≡_, refl, sym, ap, _∙_}
 use mathlib.Core.Bool.{Bool, true, false, _&&_, true≢false}
 use mathlib.Core.List.{List, [], _∷_, _++_}
-use mathlib.Core.Logic.{_↔_}
+use mathlib.Core.Logic.{_⊎_, inl, inr, ⊎-elim, _↔_}
 use native.Mathlib.Omega.{arith}
 use lib.Dec.{eqb, lit≤}
 use lib.ListN.{drop}
 use Rattle.rules.specs.Sets.{mem, word}
 use Rattle.rules.specs.Box.{asleep}
 use Rattle.rules.specs.Hub.{Hub, sleeping, start, startAll, block, boardOf, underWay}
-use Rattle.rules.specs.Calls.{Ran}
-use Rattle.rules.specs.Rest.{atRest, reached}
+use Rattle.rules.specs.Calls.{Ran, drainCall}
+use Rattle.rules.specs.Rest.{atRest, reached, enough}
 use Rattle.sets.specs.Mem.{in-lt, and-both}
 use Rattle.sets.specs.Tables.{eqb-eq}
 use Rattle.sets.specs.Loops.{by-bool, each-same, forEach-keeps}
-use Rattle.order.specs.Terms.{Names, asks, Final, Alike}
+use Rattle.order.specs.Terms.{Reached, begin, Names, asks, Final, Alike}
 use Rattle.order.specs.Started.{starts-is}
 use Rattle.order.specs.Rest.{together-lt}
 use Rattle.order.specs.Groups.{group-low, reached-out}
 use Rattle.order.specs.Kept.{start-moved}
-use Rattle.order.specs.Promises.{stopped-tables, asleep-tables, list-end, drain-end, ends-alike}
+use Rattle.order.specs.Promises.{stopped-tables, asleep-tables, list-end, drain-end, ends-alike, starts-lead, drain-within, drain-ends, drain-finishes}
 use Rattle.sheet_laws.specs.Conditions.{N}
-use Rattle.promises.specs.Said.{Call, listed, drained, answer, after, starting, tableOf, hubOf, Checked, Opened, blockAt, stateAt, hopAt, nodesAt, inAt, notAt, listAt, InStarted}
+use Rattle.promises.specs.Said.{Call, listed, drained, answer, after, starting, tableOf, hubOf, Checked, Opened, blockAt, stateAt, hopAt, nodesAt, inAt, notAt, listAt, InStarted, SameGroups}
 use Rattle.promises.specs.Blocks.{Sized, hub-sized, rest-sized, block-nodes, block-ins, block-nots, block-lists, board-block, word-block}
 use Rattle.promises.specs.High.{low-set}
 use Rattle.promises.specs.Routes.{reached-started}
@@ -135,8 +135,7 @@ unfolding boardOf
 board-same n g h lent l a = ap (λ (x : List ℕ). x ++ drop (66 * n) lent) (each-same n _ _ (λ k q. ap block (a .boxes k (omega arith))))
 
 module _ (sheet : List ℕ) (c d : Call) (board : List ℕ) (x : Opened sheet c board) (y : Opened sheet d board) where
-  both-reached : ((i : ℕ) → i < N sheet → InStarted (tableOf sheet) (starting c) i ↔ InStarted (tableOf sheet) (starting d) i)
-      → (i : ℕ) → reached 16 (tableOf sheet) (starting c) i ≡ reached 16 (tableOf sheet) (starting d) i
+  both-reached : SameGroups sheet (starting c) (starting d) → (i : ℕ) → reached 16 (tableOf sheet) (starting c) i ≡ reached 16 (tableOf sheet) (starting d) i
   both-reached e i =
       bool-same _ _
       (λ u. started-is sheet d board y i .1 (e i (started-low sheet c board x i u) .0 (started-is sheet c board x i .0 u)))
@@ -144,7 +143,7 @@ module _ (sheet : List ℕ) (c d : Call) (board : List ℕ) (x : Opened sheet c 
 
   pub same-answer : (answer sheet c board) .number ≡ 0 → (answer sheet d board) .number ≡ 0
       → (answer sheet c board) .underWay ≡ 0 → (answer sheet d board) .underWay ≡ 0
-      → ((i : ℕ) → i < N sheet → InStarted (tableOf sheet) (starting c) i ↔ InStarted (tableOf sheet) (starting d) i)
+      → SameGroups sheet (starting c) (starting d)
       → answer sheet c board ≡ answer sheet d board
   same-answer p q u v e =
       let uc : underWay 16 (hubOf sheet c) ≡ 0 = sym (x .way) ∙ u in
@@ -160,9 +159,28 @@ module _ (sheet : List ℕ) (c d : Call) (board : List ℕ) (x : Opened sheet c 
       (x .finished ∙ ap (λ (n : ℕ). eqb n 0) (uc ∙ sym vd) ∙ sym (y .finished))
       (x .board ∙ board-same (N sheet) (hubOf sheet c) (hubOf sheet d) board (x .few-boxes) a ∙ sym (y .board))
 
--- ---- starting moves nothing
+-- ---- the drain
 
-pub starts-move-none : (t : List ℕ) (x : ℕ) → (startAll 16 20 t x (sleeping 16)) .moved ≡ 0
+starts-move-none : (t : List ℕ) (x : ℕ) → (startAll 16 20 t x (sleeping 16)) .moved ≡ 0
 unfolding startAll
 starts-move-none t x =
     forEach-keeps x (start 16 20 t) (λ n g. g .moved ≡ 0) 16 (sleeping 16) refl (λ k g l m p. start-moved 16 20 t k g ∙ p) (λ k g l m p. p)
+
+module _ (sheet : List ℕ) (starts budget : ℕ) (board : List ℕ) (o : Opened sheet (drained starts budget) board) where
+  abbrev begun : Hub
+  begun = startAll 16 20 (tableOf sheet) starts (sleeping 16)
+
+  begun-reached : Reached 16 20 (tableOf sheet) begun
+  begun-reached = starts-lead 16 (tableOf sheet) (o .table) 20 wide starts (sleeping 16) begin
+
+  pub drain-most : (drainCall sheet starts budget board) .moved ≤ budget
+  drain-most =
+      omega (arith, o .moved, starts-move-none (tableOf sheet) starts, drain-within 16 (tableOf sheet) (o .table) 20 wide begun begun-reached budget)
+
+  pub drain-stops : ((drainCall sheet starts budget board) .underWay ≡ 0) ⊎ ((drainCall sheet starts budget board) .moved ≡ budget)
+  drain-stops =
+      ⊎-elim (λ e. inl (o .way ∙ e)) (λ e. inr (omega (arith, o .moved, starts-move-none (tableOf sheet) starts)))
+      (drain-ends 16 (tableOf sheet) (o .table) 20 wide begun begun-reached budget)
+
+  pub drain-done : enough 16 (tableOf sheet) (N sheet) ≤ budget → (drainCall sheet starts budget board) .underWay ≡ 0
+  drain-done l = o .way ∙ drain-finishes 16 (tableOf sheet) (o .table) 20 wide begun begun-reached (N sheet) (o .few-boxes) (o .below) budget l
