@@ -16,6 +16,7 @@ use Rattle.rules.specs.Rest.{Least, together, farthest, atRest, wireList, wireC
 use Rattle.sets.specs.Mem.{in-lt}
 use Rattle.sets.specs.Loops.{by-bool}
 use Rattle.sets.specs.Tables.{eqb-eq, eq-eqb, ne-eqb}
+use Rattle.calls.specs.Refused.{Untouched}
 use Rattle.order.specs.Terms.{startsOf, handed, SetsOnly, Final}
 use Rattle.order.specs.Groups.{together-walk}
 use Rattle.order.specs.Promises
@@ -24,7 +25,7 @@ use Rattle.sheet_laws.specs.LinksOf.{Names}
 use Rattle.sheet_laws.specs.Numbers.{Counted}
 use Rattle.promises.specs.Said.{Call, listed, drained, answer, starting, tableOf, hubOf, Opened, blockAt, stateAt, hopAt, nodesAt, inAt, notAt, listAt, Leads, InStarted, SameGroups, Takes, Farthest}
 use Rattle.promises.specs.Conditions.{firstOf, secondOf, askLines, callLines, Cond13}
-use Rattle.promises.specs.Opens.{opened}
+use Rattle.promises.specs.Opens.{opened, refused-call}
 use Rattle.promises.specs.Refusals as Tests
 use Rattle.promises.specs.Blocks.{block-asleep, board-past, board-length}
 use Rattle.promises.specs.Routes.{takes-other, walk-below, rest-farthest, leads-least, nodes-least, lists-group, lists-others, in-takes, one-taken, not-takes}
@@ -58,6 +59,10 @@ module _ (sheet : List ℕ) (call : Call) (lent : List ℕ) where
 
   pub never-13 : ran .number ≢ 13
   never-13 = Tests.never-13 sheet call lent
+
+  -- "A refusal returns its number, zero counts, not finished, and touches no lent board"
+  pub refused : ran .number ≢ 0 → Untouched lent ran
+  refused = refused-call sheet call lent
 
   -- ---- "Acceptance answers 0"
 
@@ -198,9 +203,11 @@ module _ (sheet : List ℕ) (call : Call) (lent : List ℕ) where
 
       pub end-asleep : (i : ℕ) → i < N sheet → (InStarted t (starting call) i → ⊥) → blockAt i board ≡ replicate 66 0
       end-asleep i h z =
-          let f : reached 16 t (starting call) i ≡ false =
-          by-bool (reached 16 t (starting call) i) (λ e. absurd (z (Shown.started-is sheet call lent behind i .0 e))) (λ e. e) in
-          Shown.block-hub sheet call lent behind i h ∙ ap block (end .sleep i (Shown.low sheet call lent behind i h) f) ∙ block-asleep
+          Shown.block-hub sheet call lent behind i h
+          ∙ ap block (end .sleep i (Shown.low sheet call lent behind i h) (Shown.not-started sheet call lent behind i z)) ∙ block-asleep
+
+      pub either : (i : ℕ) → InStarted t (starting call) i ⊎ (InStarted t (starting call) i → ⊥)
+      either i = Shown.started-or-not sheet call lent behind i
 
       -- "When none is under way, sent is, over started groups, the sum over wires of (e of the sender + 3) plus n(n-1) for each group of n boxes."
       pub end-sent : ran .sent ≡ sentAtRest 16 t (starting call)
@@ -331,9 +338,10 @@ module _ (sheet : List ℕ) (starts budget : ℕ) (lent : List ℕ) (ok : (drain
   drain-starts e = omega (arith, drain-within)
 
 -- two budgets that finish give the same answer
-pub budgets-alike : (sheet : List ℕ) (starts b c : ℕ) (lent : List ℕ) → (drainCall sheet starts b lent) .number ≡ 0 → (drainCall sheet starts c lent) .number ≡ 0
+pub budgets-alike : (sheet : List ℕ) (starts b c : ℕ) (lent : List ℕ) → (drainCall sheet starts b lent) .number ≡ 0
     → (drainCall sheet starts b lent) .finished ≡ true → (drainCall sheet starts c lent) .finished ≡ true
     → drainCall sheet starts b lent ≡ drainCall sheet starts c lent
-budgets-alike sheet starts b c lent p q u v =
+budgets-alike sheet starts b c lent p u v =
+    let q = Tests.any-budget sheet starts b c lent p in
     order-leaves-no-trace sheet (drained starts b) (drained starts c) lent p q
     (finished sheet (drained starts b) lent p .0 u) (finished sheet (drained starts c) lent q .0 v) (λ i h. ((λ x. x), λ x. x))

@@ -15,7 +15,7 @@ use Rattle.rules.specs.Sheet.{Sheet, readSheet}
 use Rattle.rules.specs.Hub.{Hub}
 use Rattle.rules.specs.Calls.{reading, readAnswer, hubAnswer, fitting, running, draining, onSheet, readCall, runCall, drainCall, longestList}
 use Rattle.rules.specs.Rest.{Table}
-use Rattle.calls.specs.Refused.{Numbered, sheet-numbered, running-numbered, draining-numbered}
+use Rattle.calls.specs.Refused.{Untouched, refused-run, refused-drain, Numbered, sheet-numbered, running-numbered, draining-numbered}
 use Rattle.sheet_laws.specs.Conditions.{N}
 use Rattle.sheet_laws.specs.Pairs.{refuse-accepted}
 use Rattle.sheet_laws.specs.Accepted.{accepted-sheet, accepted-same, accepted-told}
@@ -159,3 +159,9 @@ opened-drain s starts budget board u =
 pub opened : (s : List ℕ) (call : Call) (board : List ℕ) → (answer s call board) .number ≡ 0 → Opened s call board
 opened s (listed l) board u = opened-run s l board u
 opened s (drained starts budget) board u = opened-drain s starts budget board u
+
+-- ---- a refusal
+
+pub refused-call : (s : List ℕ) (call : Call) (board : List ℕ) → (answer s call board) .number ≢ 0 → Untouched board (answer s call board)
+refused-call s (listed l) board z = refused-run s l board z
+refused-call s (drained starts budget) board z = refused-drain s starts budget board z

@@ -131,6 +131,16 @@ never-21 s call n m f =
     let g = good s r e in
     true≢false (sym f ∙ never-full 16 (tableOf s) (g .table) 20 (lit≤ tt) (hubOf s call) (asked-reached s call (g .few-boxes) m))
 
+-- so the budget has no say in whether a drain is accepted
+pub any-budget : (s : List ℕ) (starts b c : ℕ) (board : List ℕ) → (drainCall s starts b board) .number ≡ 0 → (drainCall s starts c board) .number ≡ 0
+any-budget s starts b c board e =
+    let room : ℕ → List Line = λ n. line 12 0 (Cond12 s board) ∷ line 13 0 (Cond13 s (drained starts n)) ∷ [] in
+    let ask : List Line = askLines s (drained starts b) in
+    let (n, u) = none-append (sheetLines 16 s) (ask ++ room b) .0 (call-number s (drained starts b) board .zero-none .0 e) in
+    let (m, v) = none-append ask (room b) .0 u in
+    call-number s (drained starts c) board .zero-none .1
+    (none-append (sheetLines 16 s) (ask ++ room c) .1 (n, none-append ask (room c) .1 (m, (v .0, (never-21 s (drained starts c) n m, tt)))))
+
 -- no line has a number above m
 abbrev Upto : ℕ → List Line → Type 0
 Upto m [] = Unit {0}

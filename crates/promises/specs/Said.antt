@@ -1,5 +1,6 @@
--- The words of the demands over the calls: what a reader of Demands has to know beside the rules, and Walk, Least (Rest) and handed, SetsOnly (Terms) of them.
--- A list or a start set goes in with a sheet and a lent board, as bytes and words; Calls says what comes out. Definitions alone.
+-- The words of the demands over the calls: what a reader of Demands has to know beside the rules. Definitions alone.
+-- A sheet and a list are bytes, a start set and a budget are numbers, a board is lent words; Calls of the rules says what comes out.
+-- Of the crate order a reader needs `Names`, `startsOf`, `handed`, `SetsOnly` (Terms), of the crate sheet_laws `N`, `P` and the sheet's lines (Conditions).
 use Prim.Native.Nat.{ℕ, suc, _+_, _*_, _%_, _^_, _≤_, _<_}
 use mathlib.Core.Path.{_≡_}
 use mathlib.Core.Bool.{true}

@@ -118,6 +118,14 @@ module _ (sheet : List ℕ) (call : Call) (board : List ℕ) (o : Opened sheet c
       reached-started 16 (tableOf sheet) (o .table) (starting call) i
       (low-set 16 (starting call) (λ k m. omega (arith, o .few-boxes, starting-low (N sheet) (tableOf sheet) call (o .checked) k m)))
 
+  pub started-or-not : (i : ℕ) → InStarted (tableOf sheet) (starting call) i ⊎ (InStarted (tableOf sheet) (starting call) i → ⊥)
+  started-or-not i =
+      by-bool (reached 16 (tableOf sheet) (starting call) i)
+      (λ e. inl (started-is i .0 e)) (λ e. inr (λ u. true≢false (sym (started-is i .1 u) ∙ e)))
+
+  pub not-started : (i : ℕ) → (InStarted (tableOf sheet) (starting call) i → ⊥) → reached 16 (tableOf sheet) (starting call) i ≡ false
+  not-started i z = by-bool (reached 16 (tableOf sheet) (starting call) i) (λ e. absurd (z (started-is i .0 e))) (λ e. e)
+
   started-low : (i : ℕ) → reached 16 (tableOf sheet) (starting call) i ≡ true → i < N sheet
   started-low i e =
       let (k, hk, m, u) = reached-out 16 (tableOf sheet) (o .table) (starting call) i e in
