@@ -86,7 +86,7 @@ module _ (w room : ℕ) (t : List ℕ) where
       (λ e. rw (e, settle-boxes w room j (record { box = started w j (word t j); queues = λ a. []; sends = _; taken = λ a. [] }) h, upd-same (h .boxes) j (started w j (word t j))) (started-up w j (word t j)))
       (λ e. rw e (λ z. true≢false (sym (eq-eqb _ 0 z) ∙ e)))
 
-  start-moved : (j : ℕ) (h : Hub) → (start w room t j h) .moved ≡ h .moved
+  pub start-moved : (j : ℕ) (h : Hub) → (start w room t j h) .moved ≡ h .moved
   unfolding start
   start-moved j h = by-bool (eqb ((h .boxes j) .state) 0) (λ e. rw e (settle-moved w room j _ h)) (λ e. rw e)
 

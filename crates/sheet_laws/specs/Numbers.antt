@@ -75,12 +75,12 @@ first-pair s (suc m) i n p = (
 
 -- ---- the number of an answer
 
-abbrev numberOf : {A : Type 0} → Outcome A → ℕ
+abbrev pub numberOf : {A : Type 0} → Outcome A → ℕ
 numberOf (refused n p) = n
 numberOf (accepted a) = 0
 
 -- no line has number 0
-abbrev Numbered : List Line → Type 0
+abbrev pub Numbered : List Line → Type 0
 Numbered [] = Unit {0}
 Numbered (l ∷ ls) = (1 ≤ l .number) × Numbered ls
 
@@ -93,7 +93,7 @@ pub record Counted (number : ℕ) (ls : List Line) : Type 0 where
   pub zero-none : (number ≡ 0) ↔ None ls
   pub first-number : (n : ℕ) → (number ≡ suc n) ↔ ((p : ℕ) × First ls (suc n) p)
 
-counted : {A : Type 0} (o : Outcome A) (ls : List Line) → Numbered ls → Answers o ls → Counted (numberOf o) ls
+pub counted : {A : Type 0} (o : Outcome A) (ls : List Line) → Numbered ls → Answers o ls → Counted (numberOf o) ls
 counted (refused m q) ls h a =
     let f = a .refuses m q .0 refl in
     record {
@@ -109,11 +109,11 @@ pairs-numbered : (s : List ℕ) (m i : ℕ) → Numbered (pairLines s i m)
 pairs-numbered s zero i = tt
 pairs-numbered s (suc m) i = (lit≤ tt, (lit≤ tt, (lit≤ tt, pairs-numbered s m (suc i))))
 
-numbered-append : (ls ms : List Line) → Numbered ls → Numbered ms → Numbered (ls ++ ms)
+pub numbered-append : (ls ms : List Line) → Numbered ls → Numbered ms → Numbered (ls ++ ms)
 numbered-append [] ms h k = k
 numbered-append (l ∷ ls) ms h k = (h .0, numbered-append ls ms (h .1) k)
 
-sheet-numbered : (w : ℕ) (s : List ℕ) → Numbered (sheetLines w s)
+pub sheet-numbered : (w : ℕ) (s : List ℕ) → Numbered (sheetLines w s)
 sheet-numbered w s = (lit≤ tt, (lit≤ tt, (lit≤ tt, (lit≤ tt, (lit≤ tt, pairs-numbered s (P s) 0)))))
 
 -- ---- the numbers of the calls, for 16 boxes
