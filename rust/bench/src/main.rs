@@ -32,7 +32,11 @@ struct Case {
 impl Case {
     fn drain(name: &'static str, hub: Hub, starts: u16) -> Case {
         let sheet = hub.sheet();
-        Case { name, sheet, call: Call::Drain { starts } }
+        Case {
+            name,
+            sheet,
+            call: Call::Drain { starts },
+        }
     }
 
     /// A list of the greatest length in which most pairs do something: each
@@ -40,27 +44,52 @@ impl Case {
     fn long_run(name: &'static str, hub: Hub) -> Case {
         let mut chance = Chance::new();
         let mut list = vec![0, 0];
-        while list.len() < 60_000 {
+        while list.len() < derowlas::LIST_BYTES {
             let (low, high) = hub.pairs[chance.below(hub.pairs.len())];
-            list.extend(if chance.below(2) == 0 { [low, high] } else { [high, low] });
+            list.extend(if chance.below(2) == 0 {
+                [low, high]
+            } else {
+                [high, low]
+            });
         }
         let sheet = hub.sheet();
-        Case { name, sheet, call: Call::Run { list } }
+        Case {
+            name,
+            sheet,
+            call: Call::Run { list },
+        }
     }
 
     /// What the proved library answers: the messages moved.
     fn proved(&self, board: &mut [u16]) -> u32 {
         match &self.call {
-            Call::Drain { starts } => derowlas::drain(&self.sheet, *starts, derowlas::BUDGET, board).expect("accepted").moved,
-            Call::Run { list } => derowlas::run(&self.sheet, list, board).expect("accepted").moved,
+            Call::Drain { starts } => {
+                derowlas::drain(&self.sheet, *starts, derowlas::BUDGET, board)
+                    .expect("accepted")
+                    .moved
+            }
+            Call::Run { list } => {
+                derowlas::run(&self.sheet, list, board)
+                    .expect("accepted")
+                    .moved
+            }
         }
     }
 
     /// What the independent program answers.
     fn independent(&self, board: &mut [u16]) -> u32 {
         match &self.call {
-            Call::Drain { starts } => independent::drain(&self.sheet, *starts, derowlas::BUDGET, board).expect("accepted").counts.moved,
-            Call::Run { list } => independent::run(&self.sheet, list, board).expect("accepted").moved,
+            Call::Drain { starts } => {
+                independent::drain(&self.sheet, *starts, derowlas::BUDGET, board)
+                    .expect("accepted")
+                    .counts
+                    .moved
+            }
+            Call::Run { list } => {
+                independent::run(&self.sheet, list, board)
+                    .expect("accepted")
+                    .moved
+            }
         }
     }
 
@@ -102,14 +131,22 @@ fn main() {
     println!("|---|---:|---:|---:|");
     let mut worst: f64 = 0.0;
     for case in &cases {
-        let (mut ours, mut theirs) = (vec![0; 1056], vec![0; 1056]);
+        let (mut ours, mut theirs) = (
+            vec![0; derowlas::BOARD_WORDS],
+            vec![0; derowlas::BOARD_WORDS],
+        );
         let moved = case.proved(&mut ours);
         assert_eq!(moved, case.independent(&mut theirs), "{}: moved", case.name);
         assert_eq!(ours, theirs, "{}: the board", case.name);
         let one = time(3, || case.independent(&mut theirs));
         let times = (ROUND_NANOS / one).ceil() as usize;
         let rounds: Vec<(f64, f64)> = (0..ROUNDS)
-            .map(|_| (time(times, || case.proved(&mut ours)), time(times, || case.independent(&mut theirs))))
+            .map(|_| {
+                (
+                    time(times, || case.proved(&mut ours)),
+                    time(times, || case.independent(&mut theirs)),
+                )
+            })
             .collect();
         let units = case.units(moved);
         let ratio = median(rounds.iter().map(|(p, i)| p / i).collect());
