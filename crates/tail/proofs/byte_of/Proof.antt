@@ -1,3 +1,4 @@
+-- `tail::byte_of` meets its contract: a byte of what is held, or one of the part. Assumes nothing.
 use native.Mathlib.Omega.{arith}
 use mathlib.Core.Path.{_≡_}
 use lib.ListN.{length}
@@ -5,25 +6,19 @@ use borrow.Author.Needs.{needs}
 use Rattle.tail.proofs.Laws.{in-held, in-part}
 use Rattle.tail.proofs.byte_of.Statement.{statement}
 use Rattle.tail.proofs.byte_of.Tie as tie
-use Rattle.tail.proofs.byte_of.Reads as reads
-use Rattle.tail.proofs.byte_of.Lts as lts
 
--- src/lib.rt:42:16
 element-copy-out-result : tie.Need-element-copy-out-result
 element-copy-out-result c = search needs
 
--- src/lib.rt:42:9
 returns : tie.Need-returns
 returns c =
     let a = c .before .before .args in
     let l : length (a .t1 .bytes) ≡ 244 = search needs in
     in-held (a .t1 .len) (a .t1 .bytes) (a .part .now) (a .i) (omega arith) (c .before .if1 .taken)
 
--- src/lib.rt:44:5
 shared-slice-read-result : tie.Need-shared-slice-read-result
 shared-slice-read-result c = search needs
 
--- src/lib.rt:36:1
 returns-2 : tie.Need-returns-2
 returns-2 c =
     let a = c .before .before .args in

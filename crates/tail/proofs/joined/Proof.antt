@@ -1,3 +1,4 @@
+-- `tail::joined` meets its contract. The loop's invariant: the first i bytes are copied. Assumes nothing.
 use Prim.Native.Nat.{ℕ, _+_, _-_, _≤_}
 use native.Mathlib.Omega.{arith}
 use mathlib.Core.Path.{_≡_, _∙_}
@@ -8,10 +9,6 @@ use Rattle.tail.specs.Last.{held}
 use Rattle.tail.proofs.Laws.{joined-length, copied-more, all-copied}
 use Rattle.tail.proofs.joined.Statement.{statement}
 use Rattle.tail.proofs.joined.Tie as tie
-use Rattle.tail.proofs.joined.Reads as reads
-use Rattle.tail.proofs.joined.Lts as lts
-use Rattle.tail.proofs.beyond.Reads as beyond-reads
-use Rattle.tail.proofs.byte_of.Reads as byte-of-reads
 
 abbrev Inv-loop : tie.InvT-loop
 Inv-loop t part total skip len bytes₀ i₀ bytes i =
@@ -20,43 +17,33 @@ Inv-loop t part total skip len bytes₀ i₀ bytes i =
 abbrev μ-loop : tie.MeasureT-loop
 μ-loop t part total skip len bytes₀ i₀ bytes i = len - i
 
--- src/lib.rt:52:17
 add-total : tie.Need-add-total Inv-loop μ-loop
 add-total c = search needs
 
--- src/lib.rt:53:9
 beyond-requires : tie.Need-beyond-requires Inv-loop μ-loop
 beyond-requires c κs = search needs
 
--- src/lib.rt:54:15
 sub-len : tie.Need-sub-len Inv-loop μ-loop
 sub-len c = search needs
 
--- src/lib.rt:56:5
 loop-holds : tie.Need-loop-holds Inv-loop μ-loop
 loop-holds c = search needs
 
--- src/lib.rt:57:37
 add-byte-of : tie.Need-add-byte-of Inv-loop μ-loop
 add-byte-of c = search needs
 
--- src/lib.rt:57:20
 byte-of-requires : tie.Need-byte-of-requires Inv-loop μ-loop
 byte-of-requires c κs = search needs
 
--- src/lib.rt:57:9
 array-write-bytes : tie.Need-array-write-bytes Inv-loop μ-loop
 array-write-bytes c = search needs
 
--- src/lib.rt:56:9
 add-i : tie.Need-add-i Inv-loop μ-loop
 add-i c = search needs
 
--- src/lib.rt:56:5
 loop-less : tie.Need-loop-less Inv-loop μ-loop
 loop-less c = search needs
 
--- src/lib.rt:56:5
 loop-again : tie.Need-loop-again Inv-loop μ-loop
 loop-again c =
     let a = c .before .before .before .before .before .before .args in
@@ -68,7 +55,6 @@ loop-again c =
       (search needs, copied-more (b .result) (held (a .t) ++ a .part .now) (at .bytes) (at .i) (c .byte-of .result) (omega arith) (omega (arith, e, b .ensures)) (c .byte-of .ensures) (at .inv .1 .1)),
     )
 
--- src/lib.rt:48:1
 returns : tie.Need-returns Inv-loop μ-loop
 returns c =
     let a = c .before .before .before .before .before .args in

@@ -1,20 +1,15 @@
--- Bytes put one after the other, and how many bytes the parts of the text have. Assumes nothing.
-use Prim.Native.Nat.{ℕ, zero, suc, _+_, _-_, _*_, _/_, _%_, _^_, _≤_, _<_}
+-- How many bytes the parts of the text have, the line of a route, and the whole text. Assumes nothing.
+use Prim.Native.Nat.{ℕ, zero, suc, _+_, _-_, _*_, _^_, _≤_, _<_}
 use native.Mathlib.Omega.{arith}
-use native.Mathlib.Decide.{decLt}
-use native.Mathlib.Nat.{add-zero, suc-mul, pow-le-pow-right}
-use native.Mathlib.Numerals.{add-one}
+use native.Mathlib.Nat.{suc-mul}
 use mathlib.Core.Path.{_≡_, refl, sym, ap, _∙_}
-use mathlib.Core.Bool.{Bool, true, false, cond, true≢false}
 use mathlib.Core.List.{List, [], _∷_, _++_}
-use borrow.Author.Tests.{ltb-true, lt-ltb, le-ltb, eq-eqb, ne-eqb}
+use borrow.Author.Tests.{lt-ltb, le-ltb, eq-eqb, ne-eqb}
 use lib.Dec.{eqb, ltb}
-use lib.ListN.{length, length-append, set, take, getD, replicate}
-use lib.Seq.{sets, length-sets, length-take-le, take-suc}
-use Rattle.io.specs.Digits.{digits, Fewest, glyph}
-use Rattle.rules.specs.Sets.{mem, word, least, each}
-use Rattle.sets.specs.Loops.{by-bool, least-le, least-hit, least-ok}
-use Rattle.sets.specs.Stores.{Stored, sets-after}
+use lib.ListN.{length, length-append, take, replicate}
+use lib.Seq.{length-take-le}
+use Rattle.rules.specs.Sets.{mem, word, each}
+use Rattle.sets.specs.Loops.{by-bool, least-le}
 use Rattle.rules.specs.Outcome.{Outcome, refused, accepted}
 use Rattle.rules.specs.Sheet.{Sheet as SheetRead, readSheet}
 use Rattle.rules.specs.Calls.{drainCall}
@@ -25,104 +20,12 @@ use Rattle.hub.specs.declared.Answer.{Answer}
 use Rattle.text.specs.declared.Word.{Word}
 use Rattle.text.specs.declared.Word.the-variants as words
 use Rattle.text.specs.Words.{wordOf, wordLine}
-use Rattle.text.specs.Put.{Room, Put}
+use Rattle.text.specs.Put.{Put}
 use Rattle.text.specs.Text.{decimal, field, heading, line, refusal, firstWith, nodesAt, inSptAt, route, routes, boxesOf, linksOf, answered, printed, printedIn}
-
--- ---- bytes put one after the other
-
-pub put-none : (b : List ℕ) (at : ℕ) → Put b at [] at b
-put-none b at = record { next = sym (add-zero at); holds = refl }
-
-module _ {b : List ℕ} {at : ℕ} {xs : List ℕ} {p : ℕ} {m : List ℕ} (h : Put b at xs p m) where
-  pub put-length : length m ≡ length b
-  put-length = rw (h .holds) (length-sets b at xs)
-
-  pub put-then : {ys : List ℕ} {q : ℕ} {a : List ℕ} → Put m p ys q a → Put b at (xs ++ ys) q a
-  put-then {ys} g = record {
-    next = omega (arith, h .next, g .next, length-append xs ys);
-    holds = rw (g .holds, h .holds, h .next) (sets-after xs ys b at);
-  }
-
-  pub put-byte : (v : ℕ) → Put b at (xs ++ (v ∷ [])) (p + 1) (set m p v)
-  put-byte v = put-then (record { next = refl; holds = refl })
-
-  pub room-rest : (ys : List ℕ) → Room b at (xs ++ ys) → Room m p ys
-  room-rest ys r = omega (arith, h .next, put-length, length-append xs ys)
-
-pub room-first : (b : List ℕ) (at : ℕ) (xs ys : List ℕ) → Room b at (xs ++ ys) → Room b at xs
-room-first b at xs ys r = omega (arith, length-append xs ys)
-
--- a loop that puts f 0, f 1, ..
-pub put-stored : {f : ℕ → List ℕ} {at k p : ℕ} {b m : List ℕ} → Stored f at k p b m → Put b at (each k f) p m
-put-stored h = record { next = h .next; holds = h .holds }
-
--- the first bytes of a list, and one more
-pub put-more : {b : List ℕ} {at k : ℕ} {m : List ℕ} (s : List ℕ) → k < length s → Put b at (take k s) (at + k) m → Put b at (take (k + 1) s) (at + (k + 1)) (set m (at + k) (getD s k 0))
-put-more {b} {at} {k} {m} s l h =
-    let e : at + (k + 1) ≡ at + k + 1 = omega arith in
-    rw (e, add-one k, take-suc s k 0 l) (put-byte h (getD s k 0))
-
--- ---- the first that passes a test
-
-pub least-found : (w : ℕ) (f : ℕ → Bool) (k : ℕ) → k < w → ((i : ℕ) → i < k → f i ≡ false) → f k ≡ true → k ≡ least w f
-least-found w f k l none e =
-    let hit = least-hit w f k l e in
-    let not-less : least w f < k → ⊥ = λ h. true≢false (sym (hit .1) ∙ none (least w f) h) in
-    omega (arith, hit .0, not-less)
-
-pub least-none : (w : ℕ) (f : ℕ → Bool) → ((i : ℕ) → i < w → f i ≡ false) → w ≡ least w f
-least-none w f none =
-    let not-less : least w f < w → ⊥ = λ h. true≢false (sym (least-ok w f h) ∙ none (least w f) h) in
-    omega (arith, least-le w f, not-less)
-
--- ---- decimal numbers
-
--- the fewest places that hold n are those that `decimal` gives it
-module _ (n : ℕ) where
-  abbrev holds-in : ℕ → Bool
-  holds-in k = ltb n (10 ^ suc k)
-
-  places-most : n < 10 ^ 20 → (r : ℕ) → Fewest 10 1 n r → r ≤ 20
-  places-most h r f =
-      let not-more : 20 < r → ⊥ = λ l. let more : 10 ^ 20 ≤ 10 ^ (r - 1) = pow-le-pow-right (omega arith) {i = 20} {j = r - 1} (omega arith) in omega (arith, h, more, f .2 (omega arith)) in
-      omega (arith, not-more)
-
-  pub fewest-places : (r : ℕ) → r ≤ 20 → Fewest 10 1 n r → r ≡ suc (least 20 holds-in)
-  fewest-places zero l f = absurd (omega (arith, f .0))
-  fewest-places (suc q) l f =
-      let hit = least-hit 20 holds-in q (omega arith) (lt-ltb n (10 ^ suc q) (f .1)) in
-      let below = ltb-true n (10 ^ suc (least 20 holds-in)) (hit .1) in
-      let not-less : least 20 holds-in < q → ⊥ = λ h.
-      let one-less : suc q - 1 ≡ q = omega arith in
-      let more : 10 ^ suc (least 20 holds-in) ≤ 10 ^ q = pow-le-pow-right (omega arith) h in
-      omega (arith, more, below, rw one-less at (f .2 (omega arith)))
-      in
-      omega (arith, hit .0, not-less)
-
-  digits-length : (b k m : ℕ) → length (digits b k m) ≡ k
-  digits-length b zero m = refl
-  digits-length b (suc k) m = length-append (digits b k (m / b)) (glyph (m % b) ∷ []) ∙ omega (arith, digits-length b k (m / b))
-
-  -- whatever the number
-  pub field-any : (end : ℕ) → length (field n end) ≤ 22
-  unfolding field decimal
-  field-any end =
-      let p = suc (least 20 holds-in) in
-      omega (arith, length-append (digits 10 p n) (end ∷ []), digits-length 10 p n, least-le 20 holds-in)
-
-  -- a number of k + 1 places has at most k + 1 digits
-  pub field-most : (k end : ℕ) → k < 20 → n < 10 ^ suc k → length (field n end) ≤ k + 2
-  unfolding field decimal
-  field-most k end l h =
-      let p = suc (least 20 holds-in) in
-      omega (arith, length-append (digits 10 p n) (end ∷ []), digits-length 10 p n, least-hit 20 holds-in k l (lt-ltb n (10 ^ suc k) h) .0)
+use Rattle.text.proofs.PutLaws.{put-length}
+use Rattle.text.proofs.NumberLaws.{field-any, field-most}
 
 -- ---- how many bytes the parts have
-
--- what `io::decimal` leaves at the start of its array is the number
-pub digits-are : (n r : ℕ) (xs : List ℕ) → n < 10 ^ 20 → Fewest 10 1 n r → take r xs ≡ digits 10 r n → take r xs ≡ decimal n
-unfolding decimal
-digits-are n r xs l f e = e ∙ ap (λ (k : ℕ). digits 10 k n) (fewest-places n r (places-most n l r f) f)
 
 pub field-length : (n end : ℕ) → length (field n end) ≡ length (decimal n) + 1
 unfolding field
@@ -183,7 +86,7 @@ route-most board i j a b =
     (λ t. rw (e, t) (line-most i j _ _ a b (first-most board (nodesAt i) j) (first-most board (inSptAt i) j)))
     (λ t. rw (e, t) (omega arith)))
 
-routes-most : (board : List ℕ) (n : ℕ) → n ≤ 16 → length (routes board n) ≤ 3072
+pub routes-most : (board : List ℕ) (n : ℕ) → n ≤ 16 → length (routes board n) ≤ 3072
 unfolding routes
 routes-most board n h =
     omega (arith, each-most n 192 (λ i. each n (route board i)) (λ i l. omega (arith, each-most n 12 (route board i) (λ j k. route-most board i j (omega arith) (omega arith)))))
