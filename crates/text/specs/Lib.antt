@@ -1,0 +1,4 @@
+pub mod Words
+pub mod Text
+pub mod Put
+pub mod Sample
