@@ -1,5 +1,5 @@
 -- The round trip of document 01, "The link sheet", for any most number of boxes w: `reads-back`, `writes-back` and `pairs-alone`. Both directions go through
--- the rising list of a table's pairs. Assumes nothing.
+-- the rising list of a table's pairs. And that the end of a sheet is enough to read it: `last-enough`. Assumes nothing.
 use Prim.Native.Nat.{ℕ, suc, _+_, _-_, _*_, _≤_, _<_}
 use mathlib.Core.Path.{_≡_, refl, sym, ap, _∙_}
 use mathlib.Core.Bool.{true, not, _||_}
@@ -7,9 +7,9 @@ use mathlib.Core.List.{List, [], _∷_, _++_}
 use mathlib.Core.Logic.{inl, inr}
 use native.Mathlib.Omega.{arith}
 use lib.Dec.{eqb, ltb}
-use native.Mathlib.Decide.{decLe}
-use borrow.Author.Tests.{le-ltb, eq-eqb, ne-eqb, not-false}
-use lib.ListN.{length, take, drop, replicate, length-append, take-append-drop}
+use native.Mathlib.Decide.{decLe, decLt}
+use borrow.Author.Tests.{lt-ltb, le-ltb, eq-eqb, ne-eqb, not-false}
+use lib.ListN.{length, take, drop, replicate, length-append, length-drop, take-append-drop}
 use lib.Seq.{getD-append-add, drop-append-add, take-at, drop-drop, drop-cons, drop-length}
 use Rattle.rules.specs.Sets.{word}
 use Rattle.rules.specs.Outcome.{accepted, refuse, andThen}
@@ -52,6 +52,42 @@ pairs-alone w front s long h =
       le-ltb (length (front ++ s)) (word s (length s - 4)) (omega arith),
       le-ltb (length s) (word s (length s - 4)) h,
     )
+
+-- ---- the end of a sheet is enough
+
+-- where B points further back than the most links do, P is above the most or B is not 4 + 2P: 5 is given at the latest, whatever stands in front
+far-back : (w : ℕ) (front s : List ℕ) → 4 ≤ length s → 4 + 2 * mostLinks w < B s → readSheet w (front ++ s) ≡ readSheet w s
+unfolding readSheet refuse
+far-back w front s long h =
+    let k : 4 ≤ length (front ++ s) = omega (arith, length-append front s) in
+    rw (
+      front-word front s 4 long,
+      front-word front s 3 (omega arith),
+      front-word front s 2 (omega arith),
+      front-word front s 1 (omega arith),
+      le-ltb (length (front ++ s)) 4 k,
+      le-ltb (length s) 4 long,
+    )
+    (elim (decLt (mostLinks w) (P s)) [ yes l ↦ rw (lt-ltb (mostLinks w) (P s) l) | no l ↦ rw (ne-eqb (B s) (4 + 2 * P s) (λ z. omega arith)) ])
+
+-- "Of a longer input only the last 244 bytes need be kept, since B is never more": as many bytes as the most links take. The whole answer is the same, and
+-- the place of a refusal too: of a pair it counts from the first pair, and of all else it is 0.
+pub last-enough : (w n : ℕ) (s : List ℕ) → 4 + 2 * mostLinks w ≤ n → readSheet w (drop (length s - n) s) ≡ readSheet w s
+last-enough w n s room =
+    elim (decLe (length s) n) [
+      | yes short ↦ let z : length s - n ≡ 0 = omega arith in ap (λ (k : ℕ). readSheet w (drop k s)) z
+      | no long ↦
+          let front : List ℕ = take (length s - n) s in
+          let end : List ℕ = drop (length s - n) s in
+          let l : length end ≡ n = omega (arith, length-drop (length s - n) s) in
+          let same : readSheet w (front ++ end) ≡ readSheet w end =
+          elim (decLe (B end) (length end)) [
+            | yes h ↦ pairs-alone w front end (omega arith) h
+            | no h ↦ far-back w front end (omega arith) (omega arith)
+          ]
+          in
+          sym same ∙ ap (readSheet w) (take-append-drop (length s - n) s)
+    ]
 
 -- ---- a sheet that passes every test
 
