@@ -1,6 +1,6 @@
 // The printing program. Document 01, end of "Sample hubs": reads a sheet from standard input, starts every box, drains, and prints the routes of
 // each box, or the refusal. What it reads and writes no contract can say; the bytes that it keeps and the text that it prints are the crates tail's
-// and text's, whose contracts say all of it.
+// and text's, whose contracts say all of it. That the text of what is kept is the text of all that was read is `chunks-print` of text.
 ghost use Prim.Native.Nat.{_≤_};
 use libc::STDERR_FILENO;
 use libc::STDIN_FILENO;

@@ -2,3 +2,4 @@ pub mod Words
 pub mod Text
 pub mod Put
 pub mod Sample
+pub mod Kept
