@@ -11,13 +11,14 @@ use lib.ListN.{length, set, getD}
 use lib.Seq.{getD-set-same, getD-set-other}
 use Rattle.rules.specs.Sets.{mem, without, word, members, forEach}
 use Rattle.rules.specs.Box.{Msg, notspt, neighbors, Box, started, startSends, takeSet, takeSets, before, roundSends, stops, nextHop}
+use Rattle.sets.specs.Loops.{getD-words}
 use Rattle.boxes.specs.declared.Record.{Record}
 use Rattle.boxes.specs.declared.Arrival.{Arrival}
 use Rattle.boxes.specs.declared.Departure.{Departure}
 use Rattle.boxes.specs.declared.Stepped.{Stepped}
 use Rattle.boxes.specs.Record.{boxOf, recordOf, blank}
 use Rattle.boxes.specs.Step.{woken, taken, hopped, withoutEach, setsOf, originsOf, noSets, saveAll, isStopped, saved, settled, rounded, worked, stepDef}
-use Rattle.boxes.specs.Tables.{word-words, forEach-none}
+use Rattle.boxes.specs.Tables.{forEach-none}
 
 -- ---- the step by its cases
 
@@ -89,11 +90,11 @@ hopped-stops b = stopped-next (stops b)
 -- by link, the sets that go out are those of the rules
 pub sets-at : (b : Box) (j : ℕ) → j < 16 → word (setsOf b) j ≡ without (word (b .nodes) (suc (b .hop))) (word (b .inSpt) j)
 unfolding setsOf withoutEach
-sets-at b j l = word-words 16 (λ k. without (word (b .nodes) (suc (b .hop))) (word (b .inSpt) k)) j l
+sets-at b j l = getD-words 16 (λ k. without (word (b .nodes) (suc (b .hop))) (word (b .inSpt) k)) j l
 
 pub origins-at : (b : Box) (j : ℕ) → j < 16 → word (originsOf b) j ≡ without (before (b .hop) (b .nodes)) (word (b .notSpt) j)
 unfolding originsOf withoutEach
-origins-at b j l = word-words 16 (λ k. without (before (b .hop) (b .nodes)) (word (b .notSpt) k)) j l
+origins-at b j l = getD-words 16 (λ k. without (before (b .hop) (b .nodes)) (word (b .notSpt) k)) j l
 
 -- what a table of lists, the origins and the set for a link say to it
 abbrev pub said : List ℕ → ℕ → ℕ → List Msg

@@ -1,16 +1,17 @@
 -- Laws of sets and of tables of sets, over any number of boxes: what a loop over a table needs. Assumes nothing.
-use Prim.Native.Nat.{ℕ, zero, suc, _+_, _-_, _*_, _/_, _%_, _^_, _<_, _≤_, max}
+use Prim.Native.Nat.{ℕ, zero, suc, _+_, _-_, _/_, _%_, _<_, _≤_, max}
 use native.Mathlib.Omega.{arith}
-use native.Mathlib.Nat.{zero-div}
 use native.Mathlib.Decide.{decLt}
 use mathlib.Core.Path.{_≡_, refl}
 use mathlib.Core.Bool.{Bool, true, false, cond}
-use mathlib.Core.List.{List, [], _∷_, _++_}
-use lib.Bits.{bitAnd, bitOr, or-step, or-zero-l, or-zero-r, or-comm, and-zero-l}
-use lib.ListN.{length, set, getD, take, length-set, length-append, List·getD-append}
-use lib.Seq.{set-out, set-set, set-getD, getD-set-same, getD-set-other, take-suc-set, getD-append-seam}
+use mathlib.Core.List.{List}
+use lib.Bits.{bitOr, or-step, or-zero-l, or-zero-r, or-comm, and-zero-l}
+use lib.ListN.{length, set, take}
+use lib.Seq.{set-out, set-set, set-getD, getD-set-same, getD-set-other, take-suc-set}
 use Rattle.rules.specs.Sets.{mem, without, word, union, joinAt, each, words, forEach}
 use Rattle.rules.specs.Box.{before}
+use Rattle.sets.specs.Mem.{mem-empty}
+use Rattle.sets.specs.Tables.{joinAt-same, joinAt-other}
 
 -- ---- unions
 
@@ -34,10 +35,6 @@ pub or-assoc : (a b c : ℕ) → bitOr (bitOr a b) c ≡ bitOr a (bitOr b c)
 or-assoc a b c = or-assoc-to (a + b + c) a b c (omega arith)
 
 -- ---- the empty set
-
-pub mem-none : (k : ℕ) → mem k 0 ≡ false
-unfolding mem
-mem-none k = rw (zero-div (2 ^ k))
 
 pub without-none : (s : ℕ) → without 0 s ≡ 0
 unfolding without
@@ -65,20 +62,12 @@ union-past (suc n) t k s l =
     let d : (n ≡ k → ⊥) = λ e. omega arith in
     rw (union-past n t k s (omega arith), getD-set-other t k n (bitOr (word t k) s) 0 d)
 
-join-other : (t : List ℕ) (k n s : ℕ) → (n ≡ k → ⊥) → word (joinAt t k s) n ≡ word t n
-unfolding joinAt
-join-other t k n s d = getD-set-other t k n (bitOr (word t k) s) 0 d
-
-pub join-same : (t : List ℕ) (k s : ℕ) → k < length t → word (joinAt t k s) k ≡ bitOr (word t k) s
-unfolding joinAt
-join-same t k s l = getD-set-same t k (bitOr (word t k) s) 0 l
-
 pub union-join : (n : ℕ) (t : List ℕ) (k s : ℕ) → k < n → k < length t → union n (joinAt t k s) ≡ bitOr (union n t) s
 unfolding union
 union-join zero t k s l m = absurd (let z : k < 0 = l in omega arith)
 union-join (suc n) t k s l m = elim (decLt k n) [
-  | yes h ↦ rw (union-join n t k s h m, join-other t k n s (λ e. omega arith), or-assoc, or-comm s (word t n), ← or-assoc)
-  | no g ↦ let e : k ≡ n = omega arith in rw (e, union-past n t n s (omega arith), join-same t n s (rw e at m), ← or-assoc)
+  | yes h ↦ rw (union-join n t k s h m, joinAt-other t k s n (λ e. omega arith), or-assoc, or-comm s (word t n), ← or-assoc)
+  | no g ↦ let e : k ≡ n = omega arith in rw (e, union-past n t n s (omega arith), joinAt-same t n s (rw e at m), ← or-assoc)
 ]
 
 -- ---- Nodes(HOP-1)
@@ -99,26 +88,11 @@ pub words-more : (l : List ℕ) (n : ℕ) (f : ℕ → ℕ) → n < length l →
 unfolding words each
 words-more l n f h e = rw (take-suc-set l n (f n), e)
 
-pub length-words : (n : ℕ) (f : ℕ → ℕ) → length (words n f) ≡ n
-unfolding words each
-length-words zero f = refl
-length-words (suc n) f = rw (length-append, length-words n f) (omega arith)
-
-pub word-words : (n : ℕ) (f : ℕ → ℕ) (k : ℕ) → k < n → word (words n f) k ≡ f k
-unfolding words each
-word-words zero f k l = absurd (let z : k < 0 = l in omega arith)
-word-words (suc n) f k l = elim (decLt k n) [
-  | yes h ↦ rw (List·getD-append (words n f) (f n ∷ []) 0 k (rw (length-words n f) h)) (word-words n f k h)
-  | no g ↦
-      let e : k ≡ n = omega arith in
-      rw e (rw (length-words n f) at (getD-append-seam (words n f) (f n) [] 0))
-]
-
 -- the empty set has no member to do anything for
 pub forEach-none : {A : Type 0} (f : ℕ → A → A) (n : ℕ) (a : A) → forEach 0 f n a ≡ a
 unfolding forEach
 forEach-none f zero a = refl
-forEach-none f (suc n) a = rw (mem-none n, forEach-none f n a)
+forEach-none f (suc n) a = rw (mem-empty n, forEach-none f n a)
 
 -- a store where the test holds is a store of what the test picks
 pub set-if : (t : List ℕ) (k x : ℕ) (p : Bool) → set t k (cond p x (word t k)) ≡ cond p (set t k x) t

@@ -87,7 +87,7 @@ unfolding andThen
 then-numbered (refused n p) f h g = h
 then-numbered (accepted a) f h g = g a
 
-pairs-numbered : (n i a b : ℕ) (l t : List ℕ) → Numbered (pairs n i a b l t)
+pub pairs-numbered : (n i a b : ℕ) (l t : List ℕ) → Numbered (pairs n i a b l t)
 unfolding pairs
 pairs-numbered n i a b [] t = tt
 pairs-numbered n i a b (c ∷ []) t = tt

@@ -10,7 +10,7 @@ use lib.Dec.{eqb}
 use lib.Pow.{pow-pos}
 use Rattle.rules.specs.Sets.{mem, word, words, setOf, least}
 use Rattle.rules.specs.Rest.{Table, hops, layer, farthest, from, inAtRest, atRest}
-use Rattle.sets.specs.Mem.{mem-setOf, setOf-lt, in-lt, ext, mem-empty, and-both}
+use Rattle.sets.specs.Mem.{mem-setOf, setOf-lt, in-lt, ext, mem-empty, and-both, and-true}
 use Rattle.sets.specs.Loops.{by-bool, least-le, least-hit, least-ok, least-min, some-member, getD-words}
 use Rattle.sets.specs.Tables.{eqb-eq, eq-eqb, eqb-ne}
 use Rattle.hops.specs.Hops.{hops-le, hops-gap, hops-self, hops-zero, hops-sym, hops-step, hops-near, hops-between}
@@ -43,9 +43,6 @@ none-layer w t i d k e h z = true≢false (sym (layer-in w t i d k h z) ∙ ap (
 
 abbrev nearer : ℕ → List ℕ → ℕ → ℕ → ℕ → Bool
 nearer w t i k j = mem j (word t i) && eqb (suc (hops w t j k)) (hops w t i k)
-
-and-true : (x y : Bool) → x ≡ true → y ≡ true → x && y ≡ true
-and-true x y p q = rw (p, q)
 
 -- j is a neighbour of i one hop nearer to k, and no lower-numbered one is
 pub record From (w : ℕ) (t : List ℕ) (i k j : ℕ) : Type 0 where

@@ -87,6 +87,9 @@ checks n t i (a ∷ b ∷ l) o =
     inr ((λ z. x .0 (sym c ∙ z)), (i, x .1 ∙ ap (λ (k : ℕ). refused k i) (sym c))))
     (check-pair n t i a b (checkPairs n t (suc i) l o))
 
+nine : _≡_ {A = ℕ} 9 0 → ⊥
+nine x = omega arith
+
 -- ---- the sheet
 
 module _ (s : List ℕ) (p : Parsed) (h : ParsedFrom s p) (board : List ℕ) where
@@ -146,9 +149,6 @@ module _ (s : List ℕ) (p : Parsed) (h : ParsedFrom s p) (board : List ℕ) whe
         by-bool (eqb (length list % 2) 1 || ltb longestList (length list))
         (λ u. absurd (nine (rw u at e)))
         (λ u. pairs-name n 16 t list (h .boxes-most) (rw u at e))
-      where
-        nine : _≡_ {A = ℕ} 9 0 → ⊥
-        nine x = omega arith
 
     pub run-short : (list : List ℕ) → listNumber n t list ≡ 0 → length list ≤ 60000
     unfolding listNumber
@@ -156,9 +156,6 @@ module _ (s : List ℕ) (p : Parsed) (h : ParsedFrom s p) (board : List ℕ) whe
         by-bool (eqb (length list % 2) 1)
         (λ u. absurd (nine (rw u at e)))
         (λ u. by-bool (ltb longestList (length list)) (λ v. absurd (nine (rw (u, v) at e))) (λ v. ltb-false longestList (length list) v))
-      where
-        nine : _≡_ {A = ℕ} 9 0 → ⊥
-        nine x = omega arith
 
     pub run-does : (list : List ℕ) → listNumber n t list ≡ 0
         → hubAnswer 16 n board (fitting 16 n board (drain 16 20 t 0 (run 16 20 t list (sleeping 16)))) ≡ runCall s list board

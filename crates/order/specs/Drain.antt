@@ -5,6 +5,7 @@ use mathlib.Core.Bool.{true, false}
 use mathlib.Core.List.{List, [], _∷_}
 use mathlib.Core.Logic.{_⊎_, inl, inr, ⊎-elim}
 use native.Mathlib.Omega.{arith}
+use borrow.Author.Tests.{ltb-true, ltb-false}
 use lib.Dec.{ltb}
 use lib.ListN.{length}
 use Rattle.rules.specs.Sets.{word, any}
@@ -13,17 +14,16 @@ use Rattle.rules.specs.Hub.{Hub, underWay, holds, sender, receiver, deliver, dr
 use Rattle.rules.specs.Rest.{Table, enough}
 use Rattle.sets.specs.Loops.{by-bool, any-in, any-out, least-hit, least-ok, sum-same, sum-none}
 use Rattle.order.specs.Invariant.{Sound}
-use Rattle.order.specs.Send.{ltb-lt, ltb-ge}
 use Rattle.order.specs.Moves.{deliver-sound}
 use Rattle.order.specs.Sent.{sent-low}
 use Rattle.order.specs.Kept.{deliver-moved}
 
 some-there : (l : List Msg) → ltb 0 (length l) ≡ true → (m : Msg) × (q : List Msg) × (l ≡ m ∷ q)
-some-there [] e = absurd (omega (arith, ltb-lt 0 0 e))
+some-there [] e = absurd (omega (arith, ltb-true 0 0 e))
 some-there (m ∷ q) e = (m, q, refl)
 
 none-there : (l : List Msg) → ltb 0 (length l) ≡ false → length l ≡ 0
-none-there l e = omega (arith, ltb-ge 0 (length l) e)
+none-there l e = omega (arith, ltb-false 0 (length l) e)
 
 -- the search finds a wire that holds a message
 pub found : (w : ℕ) (h : Hub) → sender w h < w → (m : Msg) × (q : List Msg) × ((h .wires (sender w h) (receiver w h)) .way ≡ m ∷ q)
@@ -49,7 +49,7 @@ drain-most w room t zero h = omega arith
 drain-most w room t (suc f) h =
     by-bool (ltb (sender w h) w)
     (λ e.
-    let (m, q, z) = found w h (ltb-lt (sender w h) w e) in
+    let (m, q, z) = found w h (ltb-true (sender w h) w e) in
     rw e (omega (arith, drain-most w room t f (deliver w room t (sender w h) (receiver w h) h), deliver-moved w room t (sender w h) (receiver w h) m q h z)))
     (λ e. rw e (omega arith))
 
@@ -61,12 +61,12 @@ module _ (w : ℕ) (t : List ℕ) (s : Table w t) (room : ℕ) (hr : w + 1 ≤ r
   drained (suc f) h S =
       by-bool (ltb (sender w h) w)
       (λ e.
-      let (m, q, z) = found w h (ltb-lt (sender w h) w e) in
+      let (m, q, z) = found w h (ltb-true (sender w h) w e) in
       let g : Hub = deliver w room t (sender w h) (receiver w h) h in
       let y : g .moved ≡ suc (h .moved) = deliver-moved w room t (sender w h) (receiver w h) m q h z in
       let (T, d) = drained f g (deliver-sound w t s room hr h (sender w h) (receiver w h) S) in
       rw e (T, ⊎-elim (λ u. inl u) (λ u. inr (omega arith)) d))
-      (λ e. rw e (S, inl (quiet w h (ltb-ge (sender w h) w e))))
+      (λ e. rw e (S, inl (quiet w h (ltb-false (sender w h) w e))))
 
   -- "A budget of E(N+2) + N(N-1) always finishes"
   pub finishes : (n : ℕ) → n ≤ w → ((i : ℕ) → word t i < 2 ^ n) → (f : ℕ) (h : Hub) → enough w t n ≤ f → Sound w t h → underWay w (drain w room t f h) ≡ 0

@@ -1,32 +1,22 @@
 -- Groups: boxes that links lead to from one another; a sum over boxes, gathered by groups; groups of a sheet with fewer boxes than the hub is wide. Assumes nothing.
 use Prim.Native.Nat.{ℕ, zero, suc, _*_, _-_, _^_, _≤_, _<_}
-use mathlib.Core.Path.{_≡_, refl, sym, ap, ap₂, _∙_}
-use mathlib.Core.Bool.{Bool, true, false, _&&_, cond}
+use mathlib.Core.Path.{_≡_, refl, sym, ap, _∙_}
+use mathlib.Core.Bool.{Bool, true, _&&_, cond}
 use mathlib.Core.List.{List}
 use mathlib.Core.Logic.{_↔_}
 use native.Mathlib.Omega.{arith}
+use borrow.Author.Tests.{lt-ltb, ltb-true, le-ltb}
 use lib.Dec.{eqb, ltb}
 use Rattle.rules.specs.Sets.{mem, word, least, count, sum}
 use Rattle.rules.specs.Rest.{Table, Walk, hops, together, farthest, reached, isFirst}
-use Rattle.sets.specs.Mem.{in-lt, and-both}
-use Rattle.sets.specs.Loops.{by-bool, least-hit, any-in, any-out, count-le, count-more, sum-same, sum-none}
+use Rattle.sets.specs.Mem.{in-lt, and-both, and-true, bool-ext}
+use Rattle.sets.specs.Loops.{by-bool, least-hit, least-same, any-in, any-out, count-le, count-more, sum-same, sum-none}
 use Rattle.sets.specs.Tables.{eqb-eq, eq-eqb, ne-eqb}
 use Rattle.hops.specs.Hops.{hops-least, hops-gap, hops-self, hops-zero, hops-sym, hops-step, hops-near, hops-between}
 use Rattle.hops.specs.Rest.{far-lt, far-there}
-use Rattle.order.specs.Rounds.{link-lt, and-true}
-use Rattle.order.specs.Send.{lt-ltb, ltb-lt, ge-ltb}
+use Rattle.order.specs.Rounds.{link-lt}
 use Rattle.order.specs.Sums.{sum-one, sum-swap, sum-cond}
 use Rattle.order.specs.Rest.{together-lt, lt-together}
-
-bool-ext : (x y : Bool) → (x ≡ true → y ≡ true) → (y ≡ true → x ≡ true) → x ≡ y
-bool-ext true y f g = sym (f refl)
-bool-ext false true f g = g refl
-bool-ext false false f g = refl
-
-least-same : (n : ℕ) (f g : ℕ → Bool) → ((k : ℕ) → k < n → f k ≡ g k) → least n f ≡ least n g
-unfolding least
-least-same zero f g h = refl
-least-same (suc n) f g h = ap₂ (λ (b : Bool) (r : ℕ). cond b 0 (suc r)) (h 0 (omega arith)) (least-same n (λ k. f (suc k)) (λ k. g (suc k)) (λ k l. h (suc k) (omega arith)))
 
 module _ (w : ℕ) (t : List ℕ) (s : Table w t) where
   pub self-together : (i : ℕ) → i < w → together w t i i ≡ true
@@ -141,8 +131,8 @@ module _ (w : ℕ) (t : List ℕ) (s : Table w t) where
     more-low i k hi g m l =
         let (c, hc, e) = hops-between w t s m (hops w t i k - m) i k (omega arith) (omega arith) (omega arith) in
         count-more n (λ c. ltb (hops w t i c) m) (λ c. ltb (hops w t i c) (suc m))
-        (λ x u. lt-ltb (hops w t i x) (suc m) (omega (arith, ltb-lt (hops w t i x) m u)))
-        c (group-low i c hi (omega arith)) (ge-ltb (hops w t i c) m (omega arith)) (lt-ltb (hops w t i c) (suc m) (omega arith))
+        (λ x u. lt-ltb (hops w t i x) (suc m) (omega (arith, ltb-true (hops w t i x) m u)))
+        c (group-low i c hi (omega arith)) (le-ltb (hops w t i c) m (omega arith)) (lt-ltb (hops w t i c) (suc m) (omega arith))
 
     within-low : (i k : ℕ) → i < n → hops w t i k < w → (m : ℕ) → m ≤ hops w t i k → m < count n (λ c. ltb (hops w t i c) (suc m))
     within-low i k hi g zero l = omega (arith, more-low i k hi g 0 l)

@@ -2,9 +2,9 @@
 -- Assumes nothing.
 use Prim.Native.Nat.{ℕ, zero, suc, _+_, _<_}
 use mathlib.Core.Path.{_≡_, refl, sym, ap, _∙_}
-use mathlib.Core.Bool.{Bool, true, false, _&&_, _||_, true≢false, false≢true}
+use mathlib.Core.Bool.{true, _&&_, true≢false, false≢true}
 use mathlib.Core.List.{List, [], _∷_}
-use mathlib.Core.Logic.{_⊎_, inl, inr, ⊎-elim, _≢_}
+use mathlib.Core.Logic.{⊎-elim, _≢_}
 use native.Mathlib.Omega.{arith}
 use native.Mathlib.Decide.{ℕ-discrete}
 use lib.Dec.{eqb, ltb}
@@ -12,13 +12,12 @@ use lib.ListN.{length}
 use Rattle.rules.specs.Sets.{mem, word, upd}
 use Rattle.rules.specs.Box.{Msg, Box, Desk, started, save, stops, nextHop, round, allSets, work, receive}
 use Rattle.rules.specs.Hub.{Hub, send, sendList, sendAll, settle, start, popped, handOver, deliver, act, run, drain, startAll, queuesOf, sender, receiver}
-use Rattle.sets.specs.Mem.{and-both}
+use Rattle.sets.specs.Mem.{and-both, or-cases}
 use Rattle.sets.specs.Loops.{by-bool, forEach-keeps}
 use Rattle.sets.specs.Tables.{eqb-eq, eq-eqb, upd-same, upd-other}
 use Rattle.order.specs.Terms.{asks}
 use Rattle.order.specs.Work.{two-or-one}
 use Rattle.order.specs.Begin.{started-up}
-use Rattle.order.specs.Moves.{popped-boxes, popped-moved}
 
 -- ---- sending touches no box and moves nothing
 
@@ -52,6 +51,16 @@ settle-boxes w room i d h = all-still room i (d .sends) w _ .boxes
 settle-moved : (w room i : ℕ) (d : Desk) (h : Hub) → (settle w room i d h) .moved ≡ h .moved
 unfolding settle
 settle-moved w room i d h = all-still room i (d .sends) w _ .moved
+
+-- ---- taking a message off a wire touches no box, and moves one
+
+pub popped-boxes : (a b : ℕ) (q : List Msg) (h : Hub) → (popped a b q h) .boxes ≡ h .boxes
+unfolding popped
+popped-boxes a b q h = refl
+
+popped-moved : (a b : ℕ) (q : List Msg) (h : Hub) → (popped a b q h) .moved ≡ suc (h .moved)
+unfolding popped
+popped-moved a b q h = refl
 
 -- ---- a box that does not sleep goes on not sleeping
 
@@ -116,10 +125,6 @@ module _ (w room : ℕ) (t : List ℕ) where
   run-keeps (a ∷ []) h i z = z
   run-keeps (a ∷ b ∷ l) h i z = run-keeps l (act w room t a b h) i (act-keeps a b h i z)
 
-  or-either : (x y : Bool) → x || y ≡ true → (x ≡ true) ⊎ (y ≡ true)
-  or-either true y h = inl refl
-  or-either false y h = inr h
-
   -- a box that the list starts is not asleep at the end
   pub asked-up : (l : List ℕ) (h : Hub) (k : ℕ) → asks k l ≡ true → ((run w room t l h) .boxes k) .state ≢ 0
   unfolding run asks act
@@ -131,7 +136,7 @@ module _ (w room : ℕ) (t : List ℕ) where
       let (x, y) = and-both (eqb a b) (eqb a k) u in
       run-keeps l (act w room t a b h) k (rw (x, eqb-eq a k y) (start-wakes k h)))
       (λ u. asked-up l (act w room t a b h) k u)
-      (or-either (eqb a b && eqb a k) (asks k l) e)
+      (or-cases (eqb a b && eqb a k) (asks k l) e)
 
   drain-keeps : (f : ℕ) (h : Hub) (i : ℕ) → (h .boxes i) .state ≢ 0 → ((drain w room t f h) .boxes i) .state ≢ 0
   unfolding drain

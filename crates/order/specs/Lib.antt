@@ -12,6 +12,7 @@ pub mod Work
 pub mod Begin
 pub mod Send
 pub mod Settle
+pub mod Kept
 pub mod Moves
 pub mod Reached
 pub mod Rest
@@ -19,7 +20,6 @@ pub mod End
 pub mod Lists
 pub mod Groups
 pub mod Sent
-pub mod Kept
 pub mod Drain
 pub mod Started
 pub mod Promises

@@ -11,12 +11,12 @@ use Rattle.rules.specs.Box.{Msg, notspt, neighbors, Box}
 use Rattle.rules.specs.Hub.{Hub, Wire}
 use Rattle.rules.specs.Rest.{Table, hops, farthest, from, wireList}
 use Rattle.sets.specs.Mem.{mem-past}
-use Rattle.sets.specs.Loops.{by-bool, sum-same, sum-none}
+use Rattle.sets.specs.Loops.{by-bool, sum-same, sum-mono, sum-none}
 use Rattle.hops.specs.Rest.{from-ok, from-member, from-group, far-most}
 use Rattle.order.specs.Terms.{SetsOnly, handed, tally}
 use Rattle.order.specs.Rounds.{link-lt, links-lt, taken-near, taken-group}
 use Rattle.order.specs.Messages.{sets, sets-append, Says, says-l, says-r, says-where, tally-append, tally-none, tally-past, no-tally}
-use Rattle.order.specs.Sums.{sum-one, sum-le}
+use Rattle.order.specs.Sums.{sum-one}
 use Rattle.order.specs.Wire.{wire, wire-sets, wire-begins, wire-small, wire-list, list-place, tally-other, tally-one, tally-le}
 use Rattle.order.specs.Invariant.{Spent, Stopped, Seat, sleeps, wakes, rests, spoken, ways, Good, restHop}
 use Rattle.order.specs.Work.{spoken-up, spoken-none}
@@ -167,7 +167,7 @@ module _ (w : ℕ) (t : List ℕ) (s : Table w t) (h : Hub) (G : Good w t h) whe
 
   handed-gone : (j k : ℕ) → handed w h j k ≤ gone w h j k
   unfolding handed
-  handed-gone j k = sum-le w _ _ (λ i hi. used-le i j k)
+  handed-gone j k = sum-mono w _ _ (λ i hi. used-le i j k)
 
   -- no list of a box at or past w, and none to such a box
   gone-past : (j k : ℕ) → w ≤ k → gone w h j k ≡ 0

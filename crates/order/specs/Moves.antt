@@ -1,5 +1,5 @@
 -- Starts and deliveries keep the invariant. Assumes nothing.
-use Prim.Native.Nat.{ℕ, suc, _+_, _≤_, _<_}
+use Prim.Native.Nat.{ℕ, _+_, _≤_, _<_}
 use mathlib.Core.Path.{_≡_, refl, sym, ap, ap₂, _∙_, subst, subst₂, fun-ext}
 use mathlib.Core.Bool.{true, true≢false}
 use mathlib.Core.List.{List, [], _∷_, append-nil}
@@ -19,7 +19,8 @@ use Rattle.order.specs.Sums.{sum-more}
 use Rattle.order.specs.Wire.{wire}
 use Rattle.order.specs.Invariant.{Seat, sleeps, wakes, rests, spoken, SeatOf, ways, Others, Held, Good, Counted, Sound}
 use Rattle.order.specs.Work.{Done, received}
-use Rattle.order.specs.Begin.{begins, started-up}
+use Rattle.order.specs.Begin.{begins}
+use Rattle.order.specs.Kept.{popped-boxes, start-wakes}
 use Rattle.order.specs.Send.{left, settled}
 use Rattle.order.specs.Settle.{same-grown, grown, settle-settled, settle-held, settled-counted}
 
@@ -30,10 +31,6 @@ unfolding settled
 settled-into w j d g i k e =
     let x : ((left j d g) .wires i k) .way ≡ (g .wires i k) .way = by-bool (eqb k j) (λ z. rw z) (λ z. rw z) in
     rw (ne-eqb i j e) (append-nil _ ∙ x)
-
-pub settled-box : (w j : ℕ) (d : Desk) (g : Hub) → (settled w j d g) .boxes j ≡ d .box
-unfolding settled
-settled-box w j d g = upd-same (g .boxes) j (d .box)
 
 -- ---- the oldest message is off the wire
 
@@ -64,14 +61,6 @@ module _ (a b : ℕ) (q : List Msg) (h : Hub) where
         | yes x ↦ elim (ℕ-discrete k b) [ yes y ↦ rw (x, y) (ap f popped-here ∙ e) | no y ↦ ap f (popped-col i k y) ]
         | no x ↦ ap f (popped-row i k x)
       ]
-
-  pub popped-boxes : (popped a b q h) .boxes ≡ h .boxes
-  unfolding popped
-  popped-boxes = refl
-
-  pub popped-moved : (popped a b q h) .moved ≡ suc (h .moved)
-  unfolding popped
-  popped-moved = refl
 
   popped-counted : (w : ℕ) (m : Msg) → a < w → b < w → (h .wires a b) .way ≡ m ∷ q → Counted w h → Counted w (popped a b q h)
   unfolding popped underWay
@@ -176,14 +165,6 @@ module _ (w : ℕ) (t : List ℕ) (s : Table w t) (room : ℕ) (hr : w + 1 ≤ r
   start-counted : (h : Hub) (j : ℕ) (rest : ℕ → List Msg) → j < w → Held w t j rest h → Counted w h → Counted w (start w room t j h)
   start-counted h j rest hj H c = ⊎-elim (λ x. rw (x .1) (settled-counted w j (firstDesk j) h hj c)) (λ x. rw (x .1) c) (start-cases h j rest hj H)
 
-  start-up : (h : Hub) (j : ℕ) (rest : ℕ → List Msg) → j < w → Held w t j rest h → ((start w room t j h) .boxes j) .state ≢ 0
-  start-up h j rest hj H =
-      ⊎-elim
-      (λ x. λ z. started-up w j (word t j)
-      (ap (λ (b : Box). b .state) (sym (settled-box w j (firstDesk j) h)) ∙ ap (λ (g : Hub). (g .boxes j) .state) (sym (x .1)) ∙ z))
-      (λ x. λ z. x .0 (ap (λ (g : Hub). (g .boxes j) .state) (sym (x .1)) ∙ z))
-      (start-cases h j rest hj H)
-
   start-into : (h : Hub) (j : ℕ) (rest : ℕ → List Msg) → j < w → Held w t j rest h → (i k : ℕ) → i ≢ j → ((start w room t j h) .wires i k) .way ≡ (h .wires i k) .way
   start-into h j rest hj H i k e =
       ⊎-elim
@@ -240,7 +221,7 @@ module _ (w : ℕ) (t : List ℕ) (s : Table w t) (room : ℕ) (hr : w + 1 ≤ r
         received w t s b hb (λ k. spoken (up .boxes k)) (λ k. (up .wires k b) .taken) (ways w t up b) a m (ways w t h b) back
         (e ∙ ap (λ (x : List Msg). m ∷ x) (sym (up-way a (link-ne w t s a b back) ∙ ap (λ (x : Wire). x .way) (popped-here a b q h))))
         (λ i u z. sym (up-way i (link-ne w t s i b u) ∙ ap (λ (x : Wire). x .way) (popped-row a b q h i b z)))
-        (up .boxes b) (queuesOf up b) (start-up (popped a b q h) b (ways w t h b) hb popped-held) (up-held .seat)
+        (up .boxes b) (queuesOf up b) (start-wakes w room t b (popped a b q h)) (up-held .seat)
 
     hand-settled : handOver w room t a b m up ≡ settled w b (receive w (word t b) a m (up .boxes b) (queuesOf up b)) up
     unfolding handOver

@@ -17,14 +17,14 @@ use Rattle.rules.specs.Calls.{checkPairs}
 use Rattle.rules.specs.Rest.{Table, Walk, Least, hops, together, layer, farthest, from, atRest, wireList, reached, enough}
 use Rattle.sets.specs.Loops.{by-bool}
 use Rattle.hops.specs.Hops.{hops-least, least-hops}
-use Rattle.hops.specs.Rest.{From, from-ok, from-member, from-group, far-there, far-most}
+use Rattle.hops.specs.Rest.{From, from-ok, from-member, from-group, in-tables, far-there, far-most}
 use Rattle.order.specs.Terms.{Reached, begin, Names, startsOf, handed, SetsOnly, Final, Alike}
 use Rattle.order.specs.Rounds.{link-lt, links-lt}
 use Rattle.order.specs.Invariant.{Sound, ways}
 use Rattle.order.specs.Reached.{sound, run-reached, starts-reached, drain-reached, checked-names}
 use Rattle.order.specs.Settle.{room-of}
 use Rattle.order.specs.Moves.{good-held}
-use Rattle.order.specs.Rest.{at-rest, sleeps-at, hop-le, three-states, together-lt, lt-together, together-not, nodes-are, nodes-say, lists-say, in-say, in-off, not-say, not-off}
+use Rattle.order.specs.Rest.{at-rest, sleeps-at, hop-le, three-states, together-lt, lt-together, together-not, nodes-are, nodes-say, lists-say, in-off, not-say, not-off}
 use Rattle.order.specs.End.{under-idle, has-stopped, group-stopped}
 use Rattle.order.specs.Groups.{together-walk}
 use Rattle.order.specs.Lists.{log-begins, log-whole, log-split, ended, late-none, handed-le, handed-never, handed-once}
@@ -225,12 +225,12 @@ module _ (w : ℕ) (t : List ℕ) (table : Table w t) (i : ℕ) (hi : i < w) whe
       × ((j : ℕ) → j < w → mem k (word ((atRest w t i) .inSpt) j) ≡ true → j ≡ from w t i k)
   one-in k hk z e =
       let hj : from w t i k < w = from-member w t table i k hi (together-lt w t i k e) z in
-      ((hj, from-ok w t i k hj), in-say w t i (from w t i k) k hj hk .1 refl, λ j hl m. sym (in-say w t i j k hl hk .0 m))
+      ((hj, from-ok w t i k hj), in-tables w t table i (from w t i k) k hj hk .1 refl, λ j hl m. sym (in-tables w t table i j k hl hk .0 m))
 
   -- and nothing else is in any
   pub else-in : (j k : ℕ) → j < w → k < w → mem k (word ((atRest w t i) .inSpt) j) ≡ true → (i ≢ k) × (together w t i k ≡ true) × From w t i k j
   else-in j k hj hk m =
-      let e : from w t i k ≡ j = in-say w t i j k hj hk .0 m in
+      let e : from w t i k ≡ j = in-tables w t table i j k hj hk .0 m in
       let hf : from w t i k < w = rw e hj in
       (from-group w t table i k hi hf .1, lt-together w t i k (from-group w t table i k hi hf .0), rw e at (from-ok w t i k hf))
 
@@ -240,7 +240,7 @@ module _ (w : ℕ) (t : List ℕ) (table : Table w t) (i : ℕ) (hi : i < w) whe
   not-in j k v hk =
       let hj : j < w = link-lt w t table i j v in
       let (f, g) = not-say w t i j k v hj hk in
-      (λ m. (f m .0, λ u. f m .1 (in-say w t j i k hi hk .0 u)), λ x. g (x .0, λ u. x .1 (in-say w t j i k hi hk .1 u)))
+      (λ m. (f m .0, λ u. f m .1 (in-tables w t table j i k hi hk .0 u)), λ x. g (x .0, λ u. x .1 (in-tables w t table j i k hi hk .1 u)))
 
   -- "Both sets are zero for a J that is no neighbour."
   pub no-neighbour : (j : ℕ) → j < w → mem j (word t i) ≡ false → (word ((atRest w t i) .inSpt) j ≡ 0) × (word ((atRest w t i) .notSpt) j ≡ 0)

@@ -5,14 +5,14 @@ use mathlib.Core.Bool.{Bool, true, false, not, _&&_, _||_, true≢false}
 use mathlib.Core.List.{List, [], _∷_}
 use mathlib.Core.Logic.{_⊎_, inl, inr, ⊎-elim}
 use native.Mathlib.Omega.{arith}
-use native.Mathlib.Decide.{decLe}
-use lib.Dec.{eqb, leb, ltb, le→leb}
+use borrow.Author.Tests.{leb-false}
+use lib.Dec.{eqb, leb, ltb}
 use Rattle.rules.specs.Sets.{mem, word}
 use Rattle.rules.specs.Outcome.{Outcome, accepted, refuse}
 use Rattle.rules.specs.Hub.{Hub, sleeping, start, act, run, drain, startAll, sender, receiver, underWay}
 use Rattle.rules.specs.Calls.{checkPairs}
 use Rattle.rules.specs.Rest.{Table}
-use Rattle.sets.specs.Mem.{true-T}
+use Rattle.sets.specs.Mem.{or-neither}
 use Rattle.sets.specs.Loops.{by-bool, forEach-keeps, sum-same, sum-none}
 use Rattle.sets.specs.Tables.{eqb-eq}
 use Rattle.order.specs.Terms.{Reached, begin, starts, delivers, Names}
@@ -21,13 +21,6 @@ use Rattle.order.specs.Invariant.{sleeps, spoken, Sound}
 use Rattle.order.specs.Moves.{start-sound, deliver-sound}
 
 -- ---- the list's check
-
-leb-false : (m n : ℕ) → leb m n ≡ false → n < m
-leb-false m n e = elim (decLe m n) [ yes p ↦ absurd (true≢false (sym (true-T (leb m n) (le→leb m n p)) ∙ e)) | no p ↦ omega arith ]
-
-or-none : (x y : Bool) → x || y ≡ false → (x ≡ false) × (y ≡ false)
-or-none true y h = absurd (true≢false h)
-or-none false y h = (refl, h)
 
 and-none : (x y : Bool) → not x && not y ≡ false → (x ≡ true) ⊎ (y ≡ true)
 and-none true y h = inl refl
@@ -47,7 +40,7 @@ checked-names w n t i (a ∷ []) o x h e = (tt, e)
 checked-names w n t i (a ∷ b ∷ l) o x h e =
     let (p, e1) = passes (leb n a || leb n b) 10 i _ x e in
     let (q, e2) = passes (not (eqb a b) && not (mem b (word t a))) 11 i _ x e1 in
-    let (u, v) = or-none (leb n a) (leb n b) p in
+    let (u, v) = or-neither (leb n a) (leb n b) p in
     let (r, e3) = checked-names w n t (suc i) l o x h e2 in
     (((omega (arith, leb-false n a u), omega (arith, leb-false n b v)), ⊎-elim (λ z. inl (eqb-eq a b z)) (λ z. inr z) (and-none (eqb a b) (mem b (word t a)) q), r), e3)
 

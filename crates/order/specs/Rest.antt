@@ -6,6 +6,7 @@ use mathlib.Core.List.{List}
 use mathlib.Core.Logic.{_⊎_, inl, inr, _≢_, _↔_}
 use native.Mathlib.Omega.{arith}
 use native.Mathlib.Decide.{decLe, ℕ-discrete}
+use borrow.Author.Tests.{lt-ltb, ltb-true}
 use lib.Dec.{eqb}
 use lib.ListN.{length}
 use lib.Seq.{ext-getD}
@@ -20,7 +21,6 @@ use Rattle.hops.specs.Hops.{hops-gap, hops-step, hops-near}
 use Rattle.hops.specs.Rest.{in-layer, layer-in, layer-none, far-lt, far-most}
 use Rattle.order.specs.Rounds.{in-rest-is, not-rest-is, not-rest-off, heard-last, inCut-is, heard-is, heardTo, taken-group, no-link, not-from, zero-is}
 use Rattle.order.specs.Invariant.{Awake, Stopped, Sleeps, Seat, sleeps, wakes, rests, spoken, ways, Good, restHop}
-use Rattle.order.specs.Send.{lt-ltb, ltb-lt}
 
 box-same : (a b : Box) → a .state ≡ b .state → a .hop ≡ b .hop → a .nodes ≡ b .nodes → a .inSpt ≡ b .inSpt → a .notSpt ≡ b .notSpt → a .neighbors ≡ b .neighbors → a ≡ b
 box-same a b p q r s u v = λ i. record { state = p i; hop = q i; nodes = r i; inSpt = s i; notSpt = u i; neighbors = v i }
@@ -32,7 +32,7 @@ table-is w l f n e = ext-getD 0 l (words w f) (n ∙ sym (length-words w f)) (λ
 module _ (w : ℕ) (t : List ℕ) where
   pub together-lt : (i k : ℕ) → together w t i k ≡ true → hops w t i k < w
   unfolding together
-  together-lt i k e = ltb-lt _ _ e
+  together-lt i k e = ltb-true _ _ e
 
   pub lt-together : (i k : ℕ) → hops w t i k < w → together w t i k ≡ true
   unfolding together
@@ -165,12 +165,6 @@ module _ (w : ℕ) (t : List ℕ) where
   pub lists-say : (i k : ℕ) → k < w → word ((atRest w t i) .neighbors) k ≡ cond (together w t i k) (word t k) 0
   unfolding atRest
   lists-say i k hk = getD-words w (λ k. cond (together w t i k) (word t k) 0) k hk
-
-  pub in-say : (i j k : ℕ) → j < w → k < w → (mem k (word ((atRest w t i) .inSpt) j) ≡ true) ↔ (from w t i k ≡ j)
-  unfolding atRest
-  in-say i j k hj hk =
-      let e : word (words w (inAtRest w t i)) j ≡ inAtRest w t i j = getD-words w (inAtRest w t i) j hj in
-      (λ m. in-rest-is w t i j .get k (ap (mem k) (sym e) ∙ m), λ z. ap (mem k) e ∙ in-rest-is w t i j .put k hk z)
 
   pub not-say : (i j k : ℕ) → mem j (word t i) ≡ true → j < w → k < w
       → (mem k (word ((atRest w t i) .notSpt) j) ≡ true) ↔ ((together w t i k ≡ true) × (from w t j k ≢ i))

@@ -21,7 +21,8 @@ use Rattle.order.specs.Invariant.{Tables, Flow, Spent, Half, Stopped}
 use Rattle.order.specs.Save.{used}
 use Rattle.order.specs.Take.{Mid, all-taken, lists-out}
 
-has-head : (q : List Msg) → isSet q ≡ true → q ≡ notspt (headSet q) ∷ tail q
+-- a queue with a set at its head is that set and its tail
+pub has-head : (q : List Msg) → isSet q ≡ true → q ≡ notspt (headSet q) ∷ tail q
 unfolding isSet headSet tail
 has-head [] h = absurd (false≢true h)
 has-head (notspt s ∷ q) h = refl

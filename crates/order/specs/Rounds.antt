@@ -6,12 +6,14 @@ use mathlib.Core.Logic.{_⊎_, inl, inr, ⊎-elim, _≢_, Dec·and, Dec·not}
 use mathlib.Core.List.{List}
 use native.Mathlib.Omega.{arith}
 use native.Mathlib.Decide.{decLe, decLt, ℕ-discrete}
+use borrow.Author.Tests.{not-true}
 use lib.Bits.{bitOr}
 use lib.Dec.{eqb}
 use lib.Pow.{pow-pos, pow-lt}
 use Rattle.rules.specs.Sets.{mem, without, setOf, word}
 use Rattle.rules.specs.Rest.{Table, hops, together, layer, from, inAtRest, notAtRest, saidSet}
-use Rattle.sets.specs.Mem.{mem-setOf, setOf-lt, Is, sel, sel-is, same, or-is, without-is, and-both, not-both, in-lt, mem-empty, in-one, one-in}
+use Rattle.sets.specs.Mem.{mem-setOf, setOf-lt, Is, sel, sel-is, same, or-is, without-is, and-both, and-true, not-both, in-lt, mem-empty, in-one, one-in}
+use Rattle.sets.specs.Loops.{by-bool}
 use Rattle.sets.specs.Tables.{eqb-eq, eq-eqb, ne-eqb, eqb-ne}
 use Rattle.hops.specs.Hops.{hops-gap, hops-self, hops-zero, hops-step}
 use Rattle.hops.specs.Rest.{in-layer, layer-in, layer-lt, from-ok, from-le, from-member, from-group}
@@ -24,15 +26,8 @@ lt-suc a n h = elim (decLe n a) [ yes p ↦ inr (omega arith) | no q ↦ inl (om
 pub le-suc : (a n : ℕ) → a ≤ suc n → (a ≤ n) ⊎ (a ≡ suc n)
 le-suc a n h = elim (decLe a n) [ yes p ↦ inl p | no q ↦ inr (omega arith) ]
 
-pub and-true : (x y : Bool) → x ≡ true → y ≡ true → x && y ≡ true
-and-true x y p q = rw (p, q)
-
 pub not-false : (x : Bool) → x ≡ false → not x ≡ true
 not-false x e = rw e
-
-pub not-true : (x : Bool) → not x ≡ true → x ≡ false
-not-true true h = sym h
-not-true false h = refl
 
 -- ---- sets by what is in them
 
@@ -171,6 +166,10 @@ module _ (w : ℕ) (t : List ℕ) (s : Table w t) where
 
   pub no-link : (i j : ℕ) → word t i ≡ 0 → mem j (word t i) ≡ true → ⊥
   no-link i j z v = true≢false (sym v ∙ ap (mem j) z ∙ mem-empty j)
+
+  -- what is no link is none the other way
+  pub no-link-back : (i j : ℕ) → mem j (word t i) ≡ false → mem i (word t j) ≡ false
+  no-link-back i j v = by-bool (mem i (word t j)) (λ u. absurd (true≢false (sym (s .both j i u) ∙ v))) (λ u. u)
 
   -- ---- what j takes from i is one hop nearer, and in both groups
 

@@ -1,32 +1,18 @@
 -- Where there is room for all that a box sends, sending message by message with a check for room each time is sending it all at once. Assumes nothing.
 use Prim.Native.Nat.{ℕ, zero, suc, _+_, _≤_, _<_}
 use mathlib.Core.Path.{_≡_, refl, sym, ap, _∙_}
-use mathlib.Core.Bool.{true, false, cond, true≢false}
+use mathlib.Core.Bool.{cond}
 use mathlib.Core.List.{List, [], _∷_, _++_, append-assoc, append-nil}
 use native.Mathlib.Omega.{arith}
 use native.Mathlib.Decide.{decLt, ℕ-discrete}
-use lib.Dec.{eqb, ltb, ltb→lt, lt→ltb}
+use borrow.Author.Tests.{lt-ltb, le-ltb}
+use lib.Dec.{eqb, ltb}
 use lib.ListN.{length, length-append}
 use Rattle.rules.specs.Sets.{sum, upd}
 use Rattle.rules.specs.Box.{Msg, Desk}
 use Rattle.rules.specs.Hub.{Hub, Wire, send, sendList, sendAll, settle}
-use Rattle.sets.specs.Mem.{T-true, true-T}
 use Rattle.sets.specs.Loops.{by-bool}
 use Rattle.sets.specs.Tables.{eqb-eq, eq-eqb, ne-eqb}
-
--- ---- order of numbers as a test
-
-pub lt-ltb : (m n : ℕ) → m < n → ltb m n ≡ true
-lt-ltb m n h = true-T (ltb m n) (lt→ltb m n h)
-
-pub ltb-lt : (m n : ℕ) → ltb m n ≡ true → m < n
-ltb-lt m n e = ltb→lt m n (T-true (ltb m n) e)
-
-pub ge-ltb : (m n : ℕ) → n ≤ m → ltb m n ≡ false
-ge-ltb m n h = by-bool (ltb m n) (λ e. absurd (omega (arith, ltb-lt m n e))) (λ e. e)
-
-pub ltb-ge : (m n : ℕ) → ltb m n ≡ false → n ≤ m
-ltb-ge m n e = elim (decLt m n) [ yes p ↦ absurd (true≢false (sym (lt-ltb m n p) ∙ e)) | no p ↦ omega arith ]
 
 -- ---- hubs and wires are equal by their parts
 
@@ -112,19 +98,19 @@ module _ (room a : ℕ) where
   below-more out n x y =
       by-bool (eqb x a)
       (λ e. rw e (elim (ℕ-discrete y n) [
-        | yes z ↦ rw (z, ge-ltb n n (omega arith), eq-eqb n n refl, lt-ltb n (suc n) (omega arith))
+        | yes z ↦ rw (z, le-ltb n n (omega arith), eq-eqb n n refl, lt-ltb n (suc n) (omega arith))
         | no z ↦ elim (decLt y n) [
           | yes p ↦ rw (lt-ltb y n p, ne-eqb y n z, lt-ltb y (suc n) (omega arith)) (append-nil (out y))
-          | no p ↦ rw (ge-ltb y n (omega arith), ne-eqb y n z, ge-ltb y (suc n) (omega arith))
+          | no p ↦ rw (le-ltb y n (omega arith), ne-eqb y n z, le-ltb y (suc n) (omega arith))
         ]
       ]))
       (λ e. rw e)
 
   below-none : (out : ℕ → List Msg) (x y : ℕ) → below out 0 x y ≡ []
-  below-none out x y = by-bool (eqb x a) (λ e. rw (e, ge-ltb y 0 (omega arith))) (λ e. rw e)
+  below-none out x y = by-bool (eqb x a) (λ e. rw (e, le-ltb y 0 (omega arith))) (λ e. rw e)
 
   not-yet : (out : ℕ → List Msg) (n : ℕ) (l : List Msg) → length (l ++ below out n a n) ≡ length l
-  not-yet out n l = rw (eq-eqb a a refl, ge-ltb n n (omega arith)) (ap length (append-nil l))
+  not-yet out n l = rw (eq-eqb a a refl, le-ltb n n (omega arith)) (ap length (append-nil l))
 
   all-is : (out : ℕ → List Msg) (n : ℕ) (h : Hub)
       → ((b : ℕ) → b < n → length ((h .wires a b) .queue) + length ((h .wires a b) .way) + length (out b) ≤ room)
@@ -164,5 +150,5 @@ settle-is w room i d h none r =
     all-is room i (d .sends) w (left i d h) r
     ∙ plus-same (below room i (d .sends) w) (sendsOf i d) (sum w (λ b. length (d .sends b))) (sum w (λ b. length (d .sends b))) (left i d h)
     (λ a b. by-bool (eqb a i)
-    (λ e. rw e (elim (decLt b w) [ yes p ↦ rw (lt-ltb b w p) | no p ↦ rw (ge-ltb b w (omega arith), none b (omega arith)) ]))
+    (λ e. rw e (elim (decLt b w) [ yes p ↦ rw (lt-ltb b w p) | no p ↦ rw (le-ltb b w (omega arith), none b (omega arith)) ]))
     (λ e. rw e)) refl

@@ -12,13 +12,13 @@ use Rattle.rules.specs.Sets.{mem, bit, word, count, sum}
 use Rattle.rules.specs.Box.{Msg, Box}
 use Rattle.rules.specs.Hub.{Hub, Wire}
 use Rattle.rules.specs.Rest.{Table, hops, together, farthest, wiresOf, wireCount, reached, isFirst, sentAtRest, enough}
-use Rattle.sets.specs.Loops.{by-bool, sum-same, sum-none, count-same}
+use Rattle.sets.specs.Loops.{by-bool, sum-same, sum-mono, sum-none, count-same}
 use Rattle.sets.specs.Tables.{eqb-eq, eq-eqb, ne-eqb, eqb-ne}
 use Rattle.hops.specs.Hops.{hops-zero, hops-near}
 use Rattle.order.specs.Terms.{tally}
 use Rattle.order.specs.Rounds.{links-lt}
 use Rattle.order.specs.Messages.{no-tally}
-use Rattle.order.specs.Sums.{sum-plus, sum-more, sum-swap, sum-le, sum-times, sum-flat, sum-but-one, sum-cut, sum-cond, count-sum}
+use Rattle.order.specs.Sums.{sum-plus, sum-more, sum-swap, sum-times, sum-flat, sum-but-one, sum-cut, sum-cond, count-sum}
 use Rattle.order.specs.Wire.{wire, wire-sets, wire-small, length-tally}
 use Rattle.order.specs.Invariant.{Seat, sleeps, wakes, rests, spoken, Good, Counted}
 use Rattle.order.specs.Work.{spoken-up, spoken-none}
@@ -71,7 +71,7 @@ module _ (w : ℕ) (t : List ℕ) (s : Table w t) (h : Hub) (G : Good w t h) whe
     sets-low i =
         omega (
           arith,
-          sum-le w (λ j. setsOn t h i j) (λ j. cond (mem j (word t i)) (n + 2) 0) (λ j hj. by-bool (mem j (word t i)) (λ v. rw v (spoken-low i j v)) (λ v. rw v (omega arith))),
+          sum-mono w (λ j. setsOn t h i j) (λ j. cond (mem j (word t i)) (n + 2) 0) (λ j hj. by-bool (mem j (word t i)) (λ v. rw v (spoken-low i j v)) (λ v. rw v (omega arith))),
           sum-cond w (λ j. mem j (word t i)) (n + 2),
         )
 
@@ -94,7 +94,7 @@ module _ (w : ℕ) (t : List ℕ) (s : Table w t) (h : Hub) (G : Good w t h) whe
     pub sent-low : Counted w h → h .sent ≤ enough w t n
     unfolding enough wireCount
     sent-low c =
-        let a : sum w (λ i. sum w (λ j. setsOn t h i j)) ≤ sum w (λ i. wiresOf w t i * (n + 2)) = sum-le w _ _ (λ i hi. sets-low i) in
+        let a : sum w (λ i. sum w (λ j. setsOn t h i j)) ≤ sum w (λ i. wiresOf w t i * (n + 2)) = sum-mono w _ _ (λ i hi. sets-low i) in
         let b : sum w (λ j. sum w (λ k. gone w h j k)) ≡ sum n (λ j. sum w (λ k. gone w h j k)) =
         sum-cut n w (λ j. sum w (λ k. gone w h j k)) hn (λ j l hj. sum-same w _ _ (λ k hk. high-none j k l hj hk) ∙ sum-none w) in
         let e : sum n (λ j. sum w (λ k. gone w h j k)) ≤ n * (n - 1) = sum-flat n _ (n - 1) (λ j hj. row-low j hj) in

@@ -1,7 +1,7 @@
 -- A box has acted: the invariant of the hub afterwards, that there was room for all that it sent, and the counts. Assumes nothing.
 use Prim.Native.Nat.{ℕ, suc, _+_, _≤_, _<_}
 use mathlib.Core.Path.{_≡_, refl, sym, ap, ap₂, _∙_}
-use mathlib.Core.Bool.{true, false, true≢false}
+use mathlib.Core.Bool.{true, false}
 use mathlib.Core.List.{List, [], _++_, append-assoc, append-nil}
 use mathlib.Core.Logic.{_≢_}
 use native.Mathlib.Omega.{arith}
@@ -15,7 +15,7 @@ use Rattle.rules.specs.Rest.{Table}
 use Rattle.sets.specs.Mem.{mem-past}
 use Rattle.sets.specs.Loops.{by-bool, sum-same}
 use Rattle.sets.specs.Tables.{eqb-eq, eq-eqb, ne-eqb, upd-same, upd-other}
-use Rattle.order.specs.Rounds.{link-lt, link-ne}
+use Rattle.order.specs.Rounds.{link-lt, link-ne, no-link-back}
 use Rattle.order.specs.Messages.{sets, sets-append}
 use Rattle.order.specs.Sums.{sum-plus, sum-more}
 use Rattle.order.specs.Wire.{wire, wire-sets, part-le}
@@ -156,9 +156,6 @@ module _ (w : ℕ) (t : List ℕ) where
           (same-grown j (λ k. spoken (g .boxes k)) _ rest rest (λ k v. (ap spoken (upd-other (g .boxes) j (d .box) k (link-ne w t s k j v)), refl)))
           (D .seat))
 
-      off : (i k : ℕ) → mem k (word t i) ≡ false → mem i (word t k) ≡ false
-      off i k v = by-bool (mem i (word t k)) (λ u. absurd (true≢false (sym (s .both k i u) ∙ v))) (λ u. u)
-
       settled-quiet : (i k : ℕ) → mem k (word t i) ≡ false → (settled w j d g) .wires i k ≡ noWire
       unfolding settled
       settled-quiet i k v =
@@ -166,7 +163,7 @@ module _ (w : ℕ) (t : List ℕ) where
           let x : sendsOf j d i k ≡ [] = by-bool (eqb i j) (λ e. rw e (D .mute k (rw (eqb-eq i j e) at v) .0)) (λ e. rw e) in
           let y : (left j d g) .wires i k ≡ noWire = by-bool (eqb k j)
           (λ e.
-          let (a, b, c) = D .mute i (off i j (rw (eqb-eq k j e) at v)) in
+          let (a, b, c) = D .mute i (no-link-back w t s i j (rw (eqb-eq k j e) at v)) in
           rw e (wire-same _ noWire (ap (λ (x : Wire). x .log) q) (ap₂ _++_ (ap (λ (x : Wire). x .taken) q) b) c (ap (λ (x : Wire). x .way) q)))
           (λ e. rw e q) in
           ap₂ longer x y

@@ -1,7 +1,7 @@
 -- Which boxes are not asleep: those of the groups in which a box was started, and no other. The end of a run with nothing under way. Assumes nothing.
 use Prim.Native.Nat.{ℕ, zero, suc, _+_, _≤_, _<_}
 use mathlib.Core.Path.{_≡_, refl, sym, ap₂, _∙_}
-use mathlib.Core.Bool.{Bool, true, false, _&&_, _||_, true≢false}
+use mathlib.Core.Bool.{true, false, _&&_, true≢false}
 use mathlib.Core.List.{List, [], _∷_}
 use mathlib.Core.Logic.{_≢_}
 use native.Mathlib.Omega.{arith}
@@ -11,7 +11,7 @@ use Rattle.rules.specs.Sets.{mem, word}
 use Rattle.rules.specs.Box.{Msg, Desk}
 use Rattle.rules.specs.Hub.{Hub, sleeping, settle, start, popped, handOver, deliver, act, run, drain, startAll, sender, receiver, underWay}
 use Rattle.rules.specs.Rest.{Table, together, reached, sentAtRest}
-use Rattle.sets.specs.Mem.{Is}
+use Rattle.sets.specs.Mem.{Is, or-right}
 use Rattle.sets.specs.Loops.{by-bool, forEach-keeps, sum-same}
 use Rattle.sets.specs.Tables.{eq-eqb, upd-other}
 use Rattle.order.specs.Terms.{Names, asks, startsOf, Final, Alike}
@@ -83,10 +83,6 @@ module _ (w : ℕ) (t : List ℕ) (s : Table w t) (room : ℕ) (hr : w + 1 ≤ r
       (by-bool (eqb a b)
       (λ e. rw e (start-rooted a h (own-reached a (n .0 .0) (r a (n .0 .0) (rw (e, eq-eqb a a refl)))) y))
       (λ e. rw e (deliver-rooted a b h S y)))
-    where
-      or-right : (p q : Bool) → q ≡ true → p || q ≡ true
-      or-right true q e = refl
-      or-right false q e = e
 
   all-rooted : (h : Hub) → Sound w t h → Rooted h → Sound w t (startAll w room t x h) × Rooted (startAll w room t x h)
   unfolding startAll

@@ -38,11 +38,6 @@ unfolding sum
 sum-swap zero m f = sym (sum-none m)
 sum-swap (suc n) m f = ap (λ (x : ℕ). x + sum m (λ j. f n j)) (sum-swap n m f) ∙ sym (sum-plus m (λ j. sum n (λ i. f i j)) (λ j. f n j))
 
-pub sum-le : (n : ℕ) (f g : ℕ → ℕ) → ((k : ℕ) → k < n → f k ≤ g k) → sum n f ≤ sum n g
-unfolding sum
-sum-le zero f g h = omega arith
-sum-le (suc n) f g h = omega (arith, sum-le n f g (λ k l. h k (omega arith)), h n (omega arith))
-
 pub sum-times : (n : ℕ) (f : ℕ → ℕ) (c : ℕ) → sum n (λ k. f k * c) ≡ sum n f * c
 unfolding sum
 sum-times zero f c = omega arith

@@ -1,27 +1,21 @@
 -- The wires of a table: two for each link. The most of them, and the most messages that a drain needs: 4,560 for 16 boxes. Assumes nothing.
 use Prim.Native.Nat.{ℕ, _+_, _*_, _-_, _≤_, _<_}
-use mathlib.Core.Path.{_≡_, refl, sym, _∙_}
-use mathlib.Core.Bool.{Bool, true, false, _&&_, true≢false}
+use mathlib.Core.Path.{_≡_, sym, _∙_}
+use mathlib.Core.Bool.{true, false, _&&_, true≢false, and-false}
 use mathlib.Core.List.{List}
 use mathlib.Core.Logic.{_≢_}
 use native.Mathlib.Omega.{arith}
 use native.Mathlib.Nat.{mul-le-mul}
 use native.Mathlib.Decide.{decLt}
+use borrow.Author.Tests.{lt-ltb, le-ltb}
 use lib.Dec.{ltb}
 use Rattle.rules.specs.Sets.{mem, word, bit, count, sum}
 use Rattle.rules.specs.Sheet.{linkCount}
+use Rattle.sets.specs.Mem.{bit-le}
 use Rattle.sets.specs.Loops.{by-bool, sum-same}
 use Rattle.rules.specs.Rest.{Table, wiresOf, wireCount, enough}
+use Rattle.order.specs.Rounds.{no-link-back}
 use Rattle.order.specs.Sums.{count-sum, sum-but-one, sum-flat, sum-plus, sum-swap}
-use Rattle.order.specs.Send.{lt-ltb, ge-ltb}
-
-and-false : (x : Bool) → x && false ≡ false
-and-false true = refl
-and-false false = refl
-
-bit-le : (b : Bool) → bit b ≤ 1
-bit-le true = omega arith
-bit-le false = omega arith
 
 module _ (w : ℕ) (t : List ℕ) (s : Table w t) where
   wires-of : (i : ℕ) → i < w → wiresOf w t i ≤ w - 1
@@ -54,13 +48,13 @@ module _ (w : ℕ) (t : List ℕ) (s : Table w t) where
       (λ e.
       let f : mem i (word t j) ≡ true = s .both i j e in
       elim (decLt i j) [
-        | yes h ↦ rw (e, f, lt-ltb i j h, ge-ltb j i (omega arith))
+        | yes h ↦ rw (e, f, lt-ltb i j h, le-ltb j i (omega arith))
         | no h ↦
             let z : j ≢ i = λ q. true≢false (sym e ∙ rw q (s .apart i)) in
-            rw (e, f, ge-ltb i j (omega arith), lt-ltb j i (omega arith))
+            rw (e, f, le-ltb i j (omega arith), lt-ltb j i (omega arith))
       ])
       (λ e.
-      let f : mem i (word t j) ≡ false = by-bool (mem i (word t j)) (λ q. absurd (true≢false (sym (s .both j i q) ∙ e))) (λ q. q) in
+      let f : mem i (word t j) ≡ false = no-link-back w t s i j e in
       rw (e, f, and-false (ltb i j), and-false (ltb j i)))
 
   pub two-wires : wireCount w t ≡ 2 * linkCount w t

@@ -2,7 +2,7 @@
 -- that the definitions come to. Assumes nothing.
 use Prim.Native.Nat.{ℕ, _*_, _%_, _^_, _≤_, _<_}
 use mathlib.Core.Path.{_≡_, refl, ap, _∙_}
-use mathlib.Core.Bool.{Bool, true, false, not, _||_, true≢false}
+use mathlib.Core.Bool.{false, not, _||_}
 use mathlib.Core.List.{List}
 use mathlib.Core.Logic.{_≢_}
 use native.Mathlib.Omega.{arith}
@@ -15,6 +15,7 @@ use Rattle.rules.specs.Sheet.{Sheet, readSheet}
 use Rattle.rules.specs.Hub.{Hub}
 use Rattle.rules.specs.Calls.{reading, readAnswer, hubAnswer, fitting, running, draining, onSheet, readCall, runCall, drainCall, longestList}
 use Rattle.rules.specs.Rest.{Table}
+use Rattle.sets.specs.Mem.{or-neither}
 use Rattle.calls.specs.Refused.{Untouched, refused-run, refused-drain, Numbered, sheet-numbered, running-numbered, draining-numbered}
 use Rattle.sheet_laws.specs.Conditions.{N}
 use Rattle.sheet_laws.specs.Pairs.{refuse-accepted}
@@ -67,10 +68,6 @@ module _ (s board : List ℕ) (f : Sheet → Outcome Hub) (some : (r : Sheet) �
 
 -- ---- the checks that were passed
 
-neither : (x y : Bool) → x || y ≡ false → (x ≡ false) × (y ≡ false)
-neither true y h = absurd (true≢false h)
-neither false y h = (refl, h)
-
 -- 12 and 13
 fitted : (n : ℕ) (board : List ℕ) (g h : Hub) → fitting 16 n board g ≡ accepted h → (66 * n ≤ length board) × (g ≡ h)
 unfolding fitting
@@ -82,7 +79,7 @@ fitted n board g h e =
 -- 9
 sized : (l : List ℕ) → eqb (length l % 2) 1 || ltb longestList (length l) ≡ false → (length l % 2 ≡ 0) × (length l ≤ longestList)
 sized l e =
-    let (p, q) = neither (eqb (length l % 2) 1) (ltb longestList (length l)) e in
+    let (p, q) = or-neither (eqb (length l % 2) 1) (ltb longestList (length l)) e in
     let z : length l % 2 ≢ 1 = eqb-false (length l % 2) 1 p in
     (omega arith, omega (arith, ltb-false longestList (length l) q))
 

@@ -1,7 +1,7 @@
 -- What the board of an accepted answer shows of the hub behind it, and the end of a call with none under way. Assumes nothing.
 use Prim.Native.Nat.{ℕ, _+_, _*_, _≤_, _<_}
 use mathlib.Core.Path.{_≡_, refl, sym, ap, _∙_}
-use mathlib.Core.Bool.{Bool, true, false, _&&_, true≢false}
+use mathlib.Core.Bool.{true, false, _&&_, true≢false}
 use mathlib.Core.List.{List, [], _∷_, _++_}
 use mathlib.Core.Logic.{_⊎_, inl, inr, ⊎-elim, _↔_}
 use native.Mathlib.Omega.{arith}
@@ -12,7 +12,7 @@ use Rattle.rules.specs.Box.{asleep}
 use Rattle.rules.specs.Hub.{Hub, sleeping, start, startAll, block, boardOf, underWay}
 use Rattle.rules.specs.Calls.{Ran, drainCall}
 use Rattle.rules.specs.Rest.{atRest, reached, enough}
-use Rattle.sets.specs.Mem.{in-lt, and-both}
+use Rattle.sets.specs.Mem.{in-lt, and-both, bool-ext}
 use Rattle.sets.specs.Tables.{eqb-eq}
 use Rattle.sets.specs.Loops.{by-bool, each-same, forEach-keeps}
 use Rattle.order.specs.Terms.{Reached, begin, Names, asks, Final, Alike}
@@ -107,11 +107,6 @@ pub starting-low : (n : ℕ) (t : List ℕ) (call : Call) → Checked n t call �
 starting-low n t (listed l) c k m = asked-low n t l k (c .2) (starts-is 16 l .get k m)
 starting-low n t (drained starts budget) c k m = in-lt n starts k c m
 
-bool-same : (a b : Bool) → (a ≡ true → b ≡ true) → (b ≡ true → a ≡ true) → a ≡ b
-bool-same true b f g = sym (f refl)
-bool-same false true f g = g refl
-bool-same false false f g = refl
-
 module _ (sheet : List ℕ) (call : Call) (board : List ℕ) (o : Opened sheet call board) where
   pub started-is : (i : ℕ) → (reached 16 (tableOf sheet) (starting call) i ≡ true) ↔ InStarted (tableOf sheet) (starting call) i
   started-is i =
@@ -145,7 +140,7 @@ board-same n g h lent l a = ap (λ (x : List ℕ). x ++ drop (66 * n) lent) (eac
 module _ (sheet : List ℕ) (c d : Call) (board : List ℕ) (x : Opened sheet c board) (y : Opened sheet d board) where
   both-reached : SameGroups sheet (starting c) (starting d) → (i : ℕ) → reached 16 (tableOf sheet) (starting c) i ≡ reached 16 (tableOf sheet) (starting d) i
   both-reached e i =
-      bool-same _ _
+      bool-ext _ _
       (λ u. started-is sheet d board y i .1 (e i (started-low sheet c board x i u) .0 (started-is sheet c board x i .0 u)))
       (λ u. started-is sheet c board x i .1 (e i (started-low sheet d board y i u) .1 (started-is sheet d board y i .0 u)))
 

@@ -10,7 +10,7 @@ use lib.ListN.{length, getD, length-append, List·getD-append, List·getD-eq-def
 use lib.Pow.{pow-pos}
 use lib.Seq.{getD-at}
 use Rattle.rules.specs.Sets.{mem, bit, least, any, all, count, sum, each, words, members, forEach}
-use Rattle.sets.specs.Mem.{and-both, ext, mem-empty}
+use Rattle.sets.specs.Mem.{and-both, bit-le, ext, mem-empty}
 
 -- a test goes one of two ways, and each way knows which
 pub by-bool {ℓ} : {P : Type ℓ} (b : Bool) → (b ≡ true → P) → (b ≡ false → P) → P
@@ -44,6 +44,23 @@ least-ok (suc w) f = by-bool (f 0) (λ e. rw e (λ h. e)) (λ e. rw e (λ h. lea
 pub least-min : (w : ℕ) (f : ℕ → Bool) (k : ℕ) → k < least w f → f k ≡ false
 least-min w f k h =
     by-bool (f k) (λ e. absurd (omega (arith, least-hit w f k (omega (arith, least-le w f)) e .0))) (λ e. e)
+
+-- what passes, where none below it does, is the first
+pub least-is : (w : ℕ) (f : ℕ → Bool) (k : ℕ) → k < w → ((i : ℕ) → i < k → f i ≡ false) → f k ≡ true → least w f ≡ k
+least-is w f k l none e =
+    let hit = least-hit w f k l e in
+    let not-less : least w f < k → ⊥ = λ h. true≢false (sym (hit .1) ∙ none (least w f) h) in
+    omega (arith, hit .0, not-less)
+
+pub least-none : (w : ℕ) (f : ℕ → Bool) → ((i : ℕ) → i < w → f i ≡ false) → least w f ≡ w
+least-none w f none =
+    let not-less : least w f < w → ⊥ = λ h. true≢false (sym (least-ok w f h) ∙ none (least w f) h) in
+    omega (arith, least-le w f, not-less)
+
+pub least-same : (n : ℕ) (f g : ℕ → Bool) → ((k : ℕ) → k < n → f k ≡ g k) → least n f ≡ least n g
+unfolding least
+least-same zero f g h = refl
+least-same (suc n) f g h = ap₂ (λ (b : Bool) (r : ℕ). cond b 0 (suc r)) (h 0 (omega arith)) (least-same n (λ k. f (suc k)) (λ k. g (suc k)) (λ k l. h (suc k) (omega arith)))
 
 -- ---- some passes
 
@@ -91,10 +108,6 @@ all-not (suc n) f h =
 
 -- ---- how many pass
 
-bit-le : (b : Bool) → bit b ≤ 1
-bit-le true = omega arith
-bit-le false = omega arith
-
 bit-mono : (a b : Bool) → (a ≡ true → b ≡ true) → bit a ≤ bit b
 bit-mono true b h = rw (h refl) (omega arith)
 bit-mono false b h = omega arith
@@ -124,12 +137,23 @@ unfolding count
 count-same zero f g h = refl
 count-same (suc n) f g h = ap₂ _+_ (ap bit (h 0 (omega arith))) (count-same n (λ k. f (suc k)) (λ k. g (suc k)) (λ k l. h (suc k) (omega arith)))
 
+-- `count` goes from the front; from the back it is this
+pub count-last : (n : ℕ) (f : ℕ → Bool) → count (suc n) f ≡ count n f + bit (f n)
+unfolding count
+count-last zero f = omega arith
+count-last (suc n) f = omega (arith, count-last n (λ k. f (suc k)))
+
 -- ---- sums
 
 pub sum-same : (n : ℕ) (f g : ℕ → ℕ) → ((k : ℕ) → k < n → f k ≡ g k) → sum n f ≡ sum n g
 unfolding sum
 sum-same zero f g h = refl
 sum-same (suc n) f g h = ap₂ _+_ (sum-same n f g (λ k l. h k (omega arith))) (h n (omega arith))
+
+pub sum-mono : (n : ℕ) (f g : ℕ → ℕ) → ((k : ℕ) → k < n → f k ≤ g k) → sum n f ≤ sum n g
+unfolding sum
+sum-mono zero f g h = omega arith
+sum-mono (suc n) f g h = omega (arith, sum-mono n f g (λ k l. h k (omega arith)), h n (omega arith))
 
 pub sum-none : (n : ℕ) → sum n (λ k. 0) ≡ 0
 unfolding sum

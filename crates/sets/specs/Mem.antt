@@ -2,12 +2,13 @@
 -- boxes below w with the property P: an equation of two sets is then `same`, and two inclusions. Assumes nothing.
 use Prim.Native.Nat.{ℕ, zero, suc, _+_, _-_, _*_, _/_, _%_, _^_, _≤_, _<_, min, max}
 use mathlib.Core.Path.{_≡_, refl, sym, ap, ap₂, _∙_, subst}
-use mathlib.Core.Bool.{Bool, true, false, not, _&&_, _||_, true≢false, false≢true, decide, decide-iff}
+use mathlib.Core.Bool.{Bool, true, false, not, _&&_, _||_, true≢false, false≢true, decide, decide-iff, and-self-left}
 use mathlib.Core.Logic.{_⊎_, inl, inr, ⊎-elim, _≢_}
 use native.Mathlib.Nat.{mod-lt, div-add-mod', pow-suc, div-lt-iff-lt-mul, zero-lt-suc}
 use native.Mathlib.Numerals.{add-one}
 use native.Mathlib.Omega.{arith}
 use native.Mathlib.Decide.{decLe}
+use borrow.Author.Tests.{not-true}
 use lib.Dec.{T, eqb, ltb, eqb→eq, eqb-refl, eqb·zero-suc, eqb·suc-zero, eqb·suc-suc}
 use lib.Bits.{bitAnd, bitOr, bitXor, and-shr, or-shr, xor-shr, and-mod, or-mod, xor-mod, xor-add-and, and-le-l, or-lt}
 use lib.Pow.{shr-shr, pow-pos}
@@ -89,14 +90,10 @@ lt-pow : (a : ℕ) → a < 2 ^ a
 lt-pow zero = omega arith
 lt-pow (suc a) = omega (arith, lt-pow a)
 
-and-twice : (x y : Bool) → x && (x && y) ≡ x && y
-and-twice true y = refl
-and-twice false y = refl
-
 and-again : (a b : ℕ) → bitAnd a (bitAnd a b) ≡ bitAnd a b
 and-again a b =
     ext a _ _ (omega (arith, lt-pow a, and-le-l a (bitAnd a b))) (omega (arith, lt-pow a, and-le-l a b))
-    (λ k h. rw (mem-and k a (bitAnd a b), mem-and k a b) (and-twice (mem k a) (mem k b)))
+    (λ k h. rw (mem-and k a (bitAnd a b), mem-and k a b) (and-self-left (mem k a) (mem k b)))
 
 abbrev differs : Bool → Bool → Bool
 differs true b = not b
@@ -119,14 +116,14 @@ mem-without k a b = rw (as-xor, mem-xor, mem-and) (without-bool (mem k a) (mem k
 
 -- ---- comprehension: the set of the boxes below w that pass a test
 
-bit-lt : (b : Bool) → bit b < 2
-bit-lt true = omega arith
-bit-lt false = omega arith
+pub bit-le : (b : Bool) → bit b ≤ 1
+bit-le true = omega arith
+bit-le false = omega arith
 
 pub setOf-lt : (w : ℕ) (f : ℕ → Bool) → setOf w f < 2 ^ w
 unfolding setOf
 setOf-lt zero f = omega arith
-setOf-lt (suc w) f = omega (arith, setOf-lt w (λ k. f (suc k)), bit-lt (f 0))
+setOf-lt (suc w) f = omega (arith, setOf-lt w (λ k. f (suc k)), bit-le (f 0))
 
 odd-bit : (q : ℕ) (b : Bool) → odd (q * 2 + bit b) ≡ b
 odd-bit q true = let e : (q * 2 + 1) % 2 ≡ 1 = omega arith in ap (λ (n : ℕ). eqb n 1) e
@@ -137,7 +134,7 @@ unfolding setOf
 mem-setOf zero f k h = absurd (omega arith)
 mem-setOf (suc w) f zero h = mem-zero _ ∙ odd-bit (setOf w (λ k. f (suc k))) (f 0)
 mem-setOf (suc w) f (suc k) h =
-    let e : (setOf w (λ j. f (suc j)) * 2 + bit (f 0)) / 2 ≡ setOf w (λ j. f (suc j)) = omega (arith, bit-lt (f 0)) in
+    let e : (setOf w (λ j. f (suc j)) * 2 + bit (f 0)) / 2 ≡ setOf w (λ j. f (suc j)) = omega (arith, bit-le (f 0)) in
     mem-suc k _ ∙ ap (mem k) e ∙ mem-setOf w (λ j. f (suc j)) k (omega arith)
 
 -- no box at or past w is in a set of w boxes
@@ -150,11 +147,33 @@ mem-past (suc w) s hs (suc k) h = mem-suc k s ∙ mem-past w (s / 2) (omega arit
 pub setOf-mem : (w s : ℕ) → s < 2 ^ w → setOf w (λ k. mem k s) ≡ s
 setOf-mem w s h = ext w _ s (setOf-lt w _) h (λ k l. mem-setOf w (λ k. mem k s) k l)
 
--- ---- the same as rules: what it takes to be a member, and what a member gives
+-- ---- two tests at once: what each must say, and what they say together
 
-or-cases : (x y : Bool) → x || y ≡ true → (x ≡ true) ⊎ (y ≡ true)
+pub or-cases : (x y : Bool) → x || y ≡ true → (x ≡ true) ⊎ (y ≡ true)
 or-cases true y h = inl refl
 or-cases false y h = inr h
+
+pub or-neither : (x y : Bool) → x || y ≡ false → (x ≡ false) × (y ≡ false)
+or-neither true y h = absurd (true≢false h)
+or-neither false y h = (refl, h)
+
+pub or-right : (x y : Bool) → y ≡ true → x || y ≡ true
+or-right true y h = refl
+or-right false y h = h
+
+pub and-both : (x y : Bool) → x && y ≡ true → (x ≡ true) × (y ≡ true)
+and-both true y h = (refl, h)
+and-both false y h = absurd (false≢true h)
+
+pub and-true : (x y : Bool) → x ≡ true → y ≡ true → x && y ≡ true
+and-true x y p q = rw (p, q)
+
+pub bool-ext : (x y : Bool) → (x ≡ true → y ≡ true) → (y ≡ true → x ≡ true) → x ≡ y
+bool-ext true y f g = sym (f refl)
+bool-ext false true f g = g refl
+bool-ext false false f g = refl
+
+-- ---- the same as rules: what it takes to be a member, and what a member gives
 
 pub in-or : (k a b : ℕ) → mem k (bitOr a b) ≡ true → (mem k a ≡ true) ⊎ (mem k b ≡ true)
 in-or k a b h = or-cases (mem k a) (mem k b) (sym (mem-or k a b) ∙ h)
@@ -162,29 +181,17 @@ in-or k a b h = or-cases (mem k a) (mem k b) (sym (mem-or k a b) ∙ h)
 pub or-l : (k a b : ℕ) → mem k a ≡ true → mem k (bitOr a b) ≡ true
 or-l k a b h = rw (mem-or, h)
 
-or-true : (x y : Bool) → y ≡ true → x || y ≡ true
-or-true true y h = refl
-or-true false y h = h
-
 pub or-r : (k a b : ℕ) → mem k b ≡ true → mem k (bitOr a b) ≡ true
-or-r k a b h = mem-or k a b ∙ or-true (mem k a) (mem k b) h
+or-r k a b h = mem-or k a b ∙ or-right (mem k a) (mem k b) h
 
 pub out-or : (k a b : ℕ) → mem k a ≡ false → mem k b ≡ false → mem k (bitOr a b) ≡ false
 out-or k a b p q = rw (mem-or, p, q)
-
-pub and-both : (x y : Bool) → x && y ≡ true → (x ≡ true) × (y ≡ true)
-and-both true y h = (refl, h)
-and-both false y h = absurd (false≢true h)
 
 pub in-and : (k a b : ℕ) → mem k (bitAnd a b) ≡ true → (mem k a ≡ true) × (mem k b ≡ true)
 in-and k a b h = and-both (mem k a) (mem k b) (sym (mem-and k a b) ∙ h)
 
 pub and-in : (k a b : ℕ) → mem k a ≡ true → mem k b ≡ true → mem k (bitAnd a b) ≡ true
 and-in k a b p q = rw (mem-and, p, q)
-
-not-true : (x : Bool) → not x ≡ true → x ≡ false
-not-true true h = sym h
-not-true false h = refl
 
 pub in-without : (k a b : ℕ) → mem k (without a b) ≡ true → (mem k a ≡ true) × (mem k b ≡ false)
 in-without k a b h =
@@ -233,11 +240,6 @@ in-sel w d k m =
 pub sel-in : (w : ℕ) {P : ℕ → Type 0} (d : (k : ℕ) → Dec (P k)) (k : ℕ) → k < w → P k → mem k (sel w d) ≡ true
 unfolding sel
 sel-in w d k h p = mem-setOf w (λ j. decide (d j)) k h ∙ decide-iff (d k) .1 p
-
-bool-ext : (x y : Bool) → (x ≡ true → y ≡ true) → (y ≡ true → x ≡ true) → x ≡ y
-bool-ext true y f g = sym (f refl)
-bool-ext false true f g = g refl
-bool-ext false false f g = refl
 
 pub set-ext : (w a b : ℕ) → a < 2 ^ w → b < 2 ^ w
     → ((k : ℕ) → k < w → mem k a ≡ true → mem k b ≡ true) → ((k : ℕ) → k < w → mem k b ≡ true → mem k a ≡ true) → a ≡ b

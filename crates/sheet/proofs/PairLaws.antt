@@ -12,9 +12,10 @@ use lib.Seq.{drop-cons}
 use borrow.Author.Tests.{lt-leb, leb-false}
 use Rattle.rules.specs.Outcome.{Outcome, refused, accepted, refuse}
 use Rattle.rules.specs.Sheet.{above, link, pairs}
+use Rattle.calls.specs.Refused.{Numbered}
 use Rattle.sheet.specs.declared.Pairs.{Pairs}
 use Rattle.sheet.specs.Answers.{pairNumber, pairsAnswer}
-use Rattle.sheet.proofs.RefusalLaws.{passes, stays, Numbered, refuse-numbered}
+use Rattle.sheet.proofs.RefusalLaws.{passes, stays}
 
 -- ---- three tests in a row
 
@@ -78,14 +79,6 @@ pub ends : (n k a b i : ℕ) (part t : List ℕ) → length part ≤ i + 1 → p
 ends n k a b i part t h = short n k a b (drop i part) t (simp length-drop (omega arith))
 
 -- ---- back from the reader's answer to the rules' outcome: no refusal has the number 0
-
-pub pairs-numbered : (n i a b : ℕ) (l t : List ℕ) → Numbered (pairs n i a b l t)
-unfolding pairs
-pairs-numbered n i a b [] t = tt
-pairs-numbered n i a b (c ∷ []) t = tt
-pairs-numbered n i a b (c ∷ d ∷ l) t =
-    refuse-numbered _ 6 i _ (omega arith)
-    (refuse-numbered _ 7 i _ (omega arith) (refuse-numbered _ 8 i _ (omega arith) (pairs-numbered n (suc i) c d l (link c d t))))
 
 module _ (q : Pairs) where
   pub was-accepted : (o : Outcome (List ℕ)) → Numbered o → q ≡ pairsAnswer o → q .number ≡ 0 → o ≡ accepted (q .table)

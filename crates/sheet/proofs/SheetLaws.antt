@@ -10,11 +10,12 @@ use lib.ListN.{length, getD, take, drop}
 use borrow.Author.Tests.{lt-ltb, le-ltb}
 use Rattle.rules.specs.Outcome.{Outcome, refused, accepted, refuse, andThen}
 use Rattle.rules.specs.Sheet.{Sheet, pairs, pairBytes, readSheet}
+use Rattle.calls.specs.Refused.{Numbered, pairs-numbered, sheet-numbered}
 use Rattle.sheet.specs.declared.Pairs.{Pairs}
 use Rattle.sheet.specs.declared.Parsed.{Parsed}
 use Rattle.sheet.specs.Answers.{trailerNumber, Trailed, noLinks, noSheet, pairsAnswer, parsedAnswer, ParsedFrom}
-use Rattle.sheet.proofs.RefusalLaws.{passes, stays, Numbered, refuse-numbered, then-numbered}
-use Rattle.sheet.proofs.PairLaws.{pairs-numbered, was-accepted, was-refused}
+use Rattle.sheet.proofs.RefusalLaws.{passes, stays}
+use Rattle.sheet.proofs.PairLaws.{was-accepted, was-refused}
 
 -- a refused sheet
 pub refusing : (s : List ℕ) (r : Parsed) (k p : ℕ) → r ≡ noSheet k → 1 ≤ k → readSheet 16 s ≡ refused k p → ParsedFrom s r
@@ -112,15 +113,6 @@ module _ {s : List ℕ} {b p n v k : ℕ} (t : Trailer s b p n v) (ek : k ≡ tr
 
 -- ---- what a caller of `parse` has: the rules' outcome
 
-sheet-numbered : (s : List ℕ) → Numbered (readSheet 16 s)
-unfolding readSheet
-sheet-numbered s =
-    refuse-numbered _ 1 0 _ (omega arith)
-    (refuse-numbered _ 2 0 _ (omega arith)
-    (refuse-numbered _ 3 0 _ (omega arith)
-    (refuse-numbered _ 4 0 _ (omega arith)
-    (refuse-numbered _ 5 0 _ (omega arith) (then-numbered _ _ (pairs-numbered _ 0 0 0 _ noLinks) (λ t. tt))))))
-
 back-accepted : (r : Parsed) (o : Outcome Sheet) → Numbered o → r ≡ parsedAnswer o → r .number ≡ 0
     → o ≡ accepted (record { boxes = r .boxes; links = r .links; table = r .table })
 unfolding parsedAnswer
@@ -134,7 +126,7 @@ back-refused r (accepted q) e f = absurd (f (ap (λ (x : Parsed). x .number) e))
 
 module _ {s : List ℕ} {r : Parsed} (h : ParsedFrom s r) where
   pub sheet-accepted : r .number ≡ 0 → readSheet 16 s ≡ accepted (record { boxes = r .boxes; links = r .links; table = r .table })
-  sheet-accepted z = back-accepted r (readSheet 16 s) (sheet-numbered s) (h .read) z
+  sheet-accepted z = back-accepted r (readSheet 16 s) (sheet-numbered 16 s) (h .read) z
 
   pub sheet-refused : (r .number ≡ 0 → ⊥) → (p : ℕ) × (readSheet 16 s ≡ refused (r .number) p)
   sheet-refused f = back-refused r (readSheet 16 s) (h .read) f

@@ -9,12 +9,9 @@ use lib.ListN.{length, length-append}
 use borrow.Author.Tests.{le-ltb}
 use Rattle.rules.specs.Sets.{bit, count, sum, each}
 use Rattle.rules.specs.Sheet.{linkBytes, linkCount}
+use Rattle.sets.specs.Mem.{bit-le}
+use Rattle.sets.specs.Loops.{count-last, sum-mono}
 use Rattle.sheet.specs.Writing.{isLink, pairOf}
-use Rattle.sheet.proofs.LoopLaws.{count-next, sum-mono}
-
-bit-most : (b : Bool) → bit b ≤ 1
-bit-most true = omega arith
-bit-most false = omega arith
 
 module _ (t : List ℕ) where
   -- box i has at most as many higher neighbours as there are higher boxes
@@ -23,14 +20,14 @@ module _ (t : List ℕ) where
   row-most i zero = omega arith
   row-most i (suc k) =
       elim (decLt i k) [
-        | yes l ↦ omega (arith, count-next k (isLink t i), row-most i k, bit-most (isLink t i k))
-        | no l ↦ rw (count-next k (isLink t i), le-ltb i k (omega arith)) (omega (arith, row-most i k))
+        | yes l ↦ omega (arith, count-last k (isLink t i), row-most i k, bit-le (isLink t i k))
+        | no l ↦ rw (count-last k (isLink t i), le-ltb i k (omega arith)) (omega (arith, row-most i k))
       ]
 
   -- "P the number of links, 0 to 120"
   pub links-most : linkCount 16 t ≤ 120
   unfolding linkCount sum
-  links-most = sum-mono 16 (λ i. count 16 (isLink t i)) (λ i. 16 - suc i) (λ i. row-most i 16)
+  links-most = sum-mono 16 (λ i. count 16 (isLink t i)) (λ i. 16 - suc i) (λ i l. row-most i 16)
 
   pair-length : (b : Bool) (i j : ℕ) → length (cond b (i ∷ j ∷ []) []) ≡ 2 * bit b
   pair-length true i j = refl
@@ -40,7 +37,7 @@ module _ (t : List ℕ) where
   unfolding each count
   row-length i zero = refl
   row-length i (suc k) =
-      omega (arith, length-append (each k (pairOf t i)) (pairOf t i k), row-length i k, pair-length (isLink t i k) i k, count-next k (isLink t i))
+      omega (arith, length-append (each k (pairOf t i)) (pairOf t i k), row-length i k, pair-length (isLink t i k) i k, count-last k (isLink t i))
 
   rows-length : (w k : ℕ) → length (each k (λ i. each w (pairOf t i))) ≡ 2 * sum k (λ i. count w (isLink t i))
   unfolding each sum

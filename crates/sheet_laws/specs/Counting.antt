@@ -1,5 +1,5 @@
 -- Lists joined, and their lengths as sums and counts; the most that a sum of counts can be. Assumes nothing.
-use Prim.Native.Nat.{ℕ, zero, suc, _+_, _-_, _*_, _≤_, _<_}
+use Prim.Native.Nat.{ℕ, zero, suc, _+_, _-_, _*_, _≤_}
 use mathlib.Core.Path.{_≡_, refl, sym, ap, ap₂, _∙_}
 use mathlib.Core.Bool.{Bool, true, false, cond}
 use mathlib.Core.List.{List, [], _∷_}
@@ -9,18 +9,12 @@ use lib.ListN.{length, length-append}
 use borrow.Author.Tests.{ltb-true}
 use Rattle.rules.specs.Sets.{bit, count, sum, each}
 use Rattle.rules.specs.Sheet.{mostLinks}
-use Rattle.sets.specs.Loops.{by-bool}
+use Rattle.sets.specs.Loops.{by-bool, count-last}
 
 pub length-each : {A : Type 0} (n : ℕ) (f : ℕ → List A) → length (each n f) ≡ sum n (λ k. length (f k))
 unfolding each sum
 length-each zero f = refl
 length-each (suc n) f = length-append (each n f) (f n) ∙ ap (λ (x : ℕ). x + length (f n)) (length-each n f)
-
--- `count` goes from the front; from the back it is this
-pub count-last : (n : ℕ) (f : ℕ → Bool) → count (suc n) f ≡ count n f + bit (f n)
-unfolding count
-count-last zero f = omega arith
-count-last (suc n) f = omega (arith, count-last n (λ k. f (suc k)))
 
 -- as many entries as pass a test
 pub length-pass : {A : Type 0} (n : ℕ) (f : ℕ → Bool) (x : ℕ → A) → length (each n (λ k. cond (f k) (x k ∷ []) [])) ≡ count n f
@@ -34,11 +28,6 @@ length-pass (suc n) f x =
     one : (b : Bool) → length (cond b (x n ∷ []) []) ≡ bit b
     one true = refl
     one false = refl
-
-pub sum-mono : (n : ℕ) (f g : ℕ → ℕ) → ((k : ℕ) → k < n → f k ≤ g k) → sum n f ≤ sum n g
-unfolding sum
-sum-mono zero f g h = omega arith
-sum-mono (suc n) f g h = omega (arith, sum-mono n f g (λ k l. h k (omega arith)), h n (omega arith))
 
 -- of the numbers below n, n - suc i are above i
 pub count-above : (n i : ℕ) → count n (λ j. ltb i j) ≤ n - suc i

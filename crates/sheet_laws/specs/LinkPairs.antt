@@ -12,11 +12,11 @@ use lib.ListN.{length}
 use Rattle.rules.specs.Sets.{mem, word, count, each}
 use Rattle.rules.specs.Sheet.{linkBytes, linkCount, mostLinks}
 use Rattle.sets.specs.Mem.{and-both}
-use Rattle.sets.specs.Loops.{count-mono, sum-same, each-same}
+use Rattle.sets.specs.Loops.{count-mono, sum-same, sum-mono, each-same}
 use Rattle.sheet_laws.specs.Conditions.{Linked}
 use Rattle.sheet_laws.specs.Rising.{In, in-each, each-in, Rising, rising-each}
 use Rattle.sheet_laws.specs.Pairs.{Pair, pair, flat, flat-append, Up}
-use Rattle.sheet_laws.specs.Counting.{length-each, length-pass, sum-mono, count-above, sum-most}
+use Rattle.sheet_laws.specs.Counting.{length-each, length-pass, count-above, sum-most}
 
 -- a link from a lower box to a higher one
 abbrev up : List ℕ → ℕ → ℕ → Bool

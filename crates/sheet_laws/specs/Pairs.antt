@@ -1,7 +1,7 @@
 -- Reading a list of pairs: it is accepted exactly where the pairs rise and name boxes below n, and then gives the table with these links. Assumes nothing.
 use Prim.Native.Nat.{ℕ, zero, suc, _*_, _<_}
 use mathlib.Core.Path.{_≡_, refl, ap, _∙_}
-use mathlib.Core.Bool.{Bool, true, false, not, _||_, true≢false}
+use mathlib.Core.Bool.{Bool, true, false, not, _||_}
 use mathlib.Core.List.{List, [], _∷_, _++_}
 use mathlib.Core.Logic.{inl, inr, ⊎-elim}
 use native.Mathlib.Omega.{arith}
@@ -10,6 +10,7 @@ use lib.Dec.{leb}
 use lib.ListN.{length}
 use Rattle.rules.specs.Outcome.{Outcome, accepted, refuse}
 use Rattle.rules.specs.Sheet.{pairs, above, link}
+use Rattle.sets.specs.Mem.{or-neither}
 use Rattle.sheet_laws.specs.Conditions.{Above}
 use Rattle.sheet_laws.specs.Answers.{test-true, test-false, leb-tests, or-tests, lower-tests, above-tests, clash}
 use Rattle.sheet_laws.specs.Rising.{In, Chain}
@@ -92,10 +93,6 @@ evens zero (c ∷ d ∷ bytes) k = absurd (omega arith)
 evens (suc m) (c ∷ d ∷ bytes) k =
     let (l, e) = evens m bytes (omega arith) in (pair c d ∷ l, ap (λ (x : List ℕ). c ∷ d ∷ x) e)
 
-or-false : (x y : Bool) → x || y ≡ false → y ≡ false
-or-false true y h = absurd (true≢false h)
-or-false false y h = h
-
 pub pairs-accepted : (n i : ℕ) (p : Pair) (l : List Pair) (t r : List ℕ) → pairs n i (p .low) (p .high) (flat l) t ≡ accepted r
     → Chain Up p l × ((q : Pair) → In q l → Below n q) × (r ≡ linkAll l t)
 unfolding pairs
@@ -106,6 +103,6 @@ pairs-accepted n i p (q ∷ l) t r e =
     let (f8, e8) = refuse-accepted (not (above (p .low) (p .high) (q .low) (q .high))) 8 i _ e7 in
     let (c, b, k) = pairs-accepted n (suc i) q l (link (q .low) (q .high) t) r e8 in (
       (above-tests (p .low) (p .high) (q .low) (q .high) .holds (not-false _ f8), c),
-      (λ x. ⊎-elim (λ h. rw h (leb-false (q .high) (q .low) f7, leb-false n (q .high) (or-false (leb n (q .low)) (leb n (q .high)) f6))) (λ h. b x h)),
+      (λ x. ⊎-elim (λ h. rw h (leb-false (q .high) (q .low) f7, leb-false n (q .high) (or-neither (leb n (q .low)) (leb n (q .high)) f6 .1))) (λ h. b x h)),
       k,
     )

@@ -1,7 +1,7 @@
 -- What a turn gathers for a round is what the rules take from the queues: the set at each head, and the lists behind it. Assumes nothing.
 use Prim.Native.Nat.{ℕ, zero, suc, _+_, _*_, _%_, _/_, _^_, _≤_, _<_}
 use mathlib.Core.Path.{_≡_, refl, sym, ap, ap₂, _∙_, subst}
-use mathlib.Core.Bool.{Bool, true, false, cond, true≢false, false≢true, _||_, _&&_}
+use mathlib.Core.Bool.{Bool, true, false, cond, true≢false, _||_, _&&_}
 use mathlib.Core.List.{List, [], _∷_, _++_, map}
 use mathlib.Core.Logic.{_⊎_, inl, inr, ⊎-elim, _≢_}
 use native.Mathlib.Omega.{arith}
@@ -18,6 +18,7 @@ use Rattle.rules.specs.Hub.{Wire}
 use Rattle.sets.specs.Mem.{mem-or, mem-one, mem-empty}
 use Rattle.sets.specs.Loops.{by-bool, forEach-keeps}
 use Rattle.sets.specs.Tables.{eq-eqb, ne-eqb}
+use Rattle.order.specs.Round.{has-head}
 use Rattle.wires.specs.Wires.{sixteen, Waiting, waiting, Formed, Others, queued, front, taken, takenWord, First, Taken}
 use Rattle.wires.specs.Words.{wordOf, isList, originOf, setOf, Small}
 use Rattle.wires.proofs.Laws.{queue-length, first-law, take-law, sixteen-proper}
@@ -159,13 +160,6 @@ module _ (i : ℕ) (here : i < 256) where
 
 -- ---- one link
 
--- a queue with a set at its head is that set and its tail
-set-first : (q : List Msg) → isSet q ≡ true → q ≡ notspt (headSet q) ∷ tail q
-unfolding isSet headSet tail
-set-first [] e = absurd (false≢true e)
-set-first (notspt s ∷ q) e = refl
-set-first (neighbors k s ∷ q) e = absurd (false≢true e)
-
 -- what gatherLink does at wire i, which carries link j
 pub record Gathers (i j : ℕ) (q : List Msg) (w : List ℕ) (g g′ : Got) : Type 0 where
   pub formed : Formed sixteen (g′ .store)
@@ -179,10 +173,10 @@ pub record Gathers (i j : ℕ) (q : List Msg) (w : List ℕ) (g g′ : Got) : Ty
 module _ (i j : ℕ) (here : i < 256) (q : List Msg) (w : List ℕ) (g : Got) (set-head : isSet q ≡ true) (small : AllSmall q)
     (Q : Queue i here (g .store) q w) (size : length (g .lists) ≡ 16) where
   abbrev Q′ : Queue i here (g .store) (notspt (headSet q) ∷ tail q) w
-  Q′ = record { formed = Q .formed; at = Q .at ∙ ap (λ (l : List Msg). holdsBoth (wordsOf l) w) (set-first q set-head) }
+  Q′ = record { formed = Q .formed; at = Q .at ∙ ap (λ (l : List Msg). holdsBoth (wordsOf l) w) (has-head q set-head) }
 
   abbrev small′ : AllSmall (notspt (headSet q) ∷ tail q)
-  small′ = subst AllSmall (set-first q set-head) small
+  small′ = subst AllSmall (has-head q set-head) small
 
   head-word : setOf (takenWord sixteen (g .store) i) ≡ headSet q
   head-word = ap setOf (taken-of i here (g .store) (notspt (headSet q)) (tail q) w Q′) ∙ set-word (headSet q) (small′ .0) .1

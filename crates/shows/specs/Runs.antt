@@ -17,7 +17,7 @@ use Rattle.rules.specs.Box.{Msg, Box, asleep}
 use Rattle.rules.specs.Hub.{Wire, Hub, sleeping, start, deliver, act, run, drain, holds, sender, receiver}
 use Rattle.rules.specs.Rest.{Table}
 use Rattle.sets.specs.Mem.{mem-empty}
-use Rattle.sets.specs.Loops.{by-bool, least-ok, least-hit, any-out}
+use Rattle.sets.specs.Loops.{by-bool, least-ok, least-hit, least-same, any-out}
 use Rattle.sets.specs.Tables.{eqb-eq, eq-eqb, ne-eqb}
 use Rattle.order.specs.Invariant.{Sound}
 use Rattle.order.specs.Terms.{Names, Reached, begin}
@@ -85,17 +85,12 @@ delivered-facts c a b s =
     (λ u. rw (e, f, u) (first-facts c a b _ _ .0, λ z. first-facts c a b _ _ .1))
     (λ u. rw (e, f, u) (refl, λ z. refl))))
 
--- ---- loops that say the same
+-- ---- a loop that says the same
 
 any-same : (n : ℕ) (f g : ℕ → Bool) → ((k : ℕ) → k < n → f k ≡ g k) → any n f ≡ any n g
 unfolding any
 any-same zero f g e = refl
 any-same (suc n) f g e = ap₂ _||_ (e 0 (omega arith)) (any-same n (λ k. f (suc k)) (λ k. g (suc k)) (λ k l. e (suc k) (omega arith)))
-
-least-same : (n : ℕ) (f g : ℕ → Bool) → ((k : ℕ) → k < n → f k ≡ g k) → least n f ≡ least n g
-unfolding least
-least-same zero f g e = refl
-least-same (suc n) f g e = ap₂ (λ (b : Bool) (r : ℕ). cond b 0 (suc r)) (e 0 (omega arith)) (least-same n (λ k. f (suc k)) (λ k. g (suc k)) (λ k l. e (suc k) (omega arith)))
 
 -- ---- one pair of the list
 

@@ -1,32 +1,17 @@
--- The first that passes a test, and numbers in decimal. Assumes nothing.
+-- Numbers in decimal. Assumes nothing.
 use Prim.Native.Nat.{ℕ, zero, suc, _+_, _-_, _/_, _%_, _^_, _≤_, _<_}
 use native.Mathlib.Omega.{arith}
 use native.Mathlib.Nat.{pow-le-pow-right}
-use mathlib.Core.Path.{_≡_, refl, sym, ap, _∙_}
-use mathlib.Core.Bool.{Bool, true, false, true≢false}
+use mathlib.Core.Path.{_≡_, refl, ap, _∙_}
+use mathlib.Core.Bool.{Bool}
 use mathlib.Core.List.{List, [], _∷_}
 use borrow.Author.Tests.{ltb-true, lt-ltb}
 use lib.Dec.{ltb}
 use lib.ListN.{length, length-append, take}
 use Rattle.io.specs.Digits.{digits, Fewest, glyph}
 use Rattle.rules.specs.Sets.{least}
-use Rattle.sets.specs.Loops.{least-le, least-hit, least-ok}
+use Rattle.sets.specs.Loops.{least-le, least-hit}
 use Rattle.text.specs.Text.{decimal, field}
-
--- ---- the first that passes a test
-
-pub least-found : (w : ℕ) (f : ℕ → Bool) (k : ℕ) → k < w → ((i : ℕ) → i < k → f i ≡ false) → f k ≡ true → k ≡ least w f
-least-found w f k l none e =
-    let hit = least-hit w f k l e in
-    let not-less : least w f < k → ⊥ = λ h. true≢false (sym (hit .1) ∙ none (least w f) h) in
-    omega (arith, hit .0, not-less)
-
-pub least-none : (w : ℕ) (f : ℕ → Bool) → ((i : ℕ) → i < w → f i ≡ false) → w ≡ least w f
-least-none w f none =
-    let not-less : least w f < w → ⊥ = λ h. true≢false (sym (least-ok w f h) ∙ none (least w f) h) in
-    omega (arith, least-le w f, not-less)
-
--- ---- decimal numbers
 
 -- the fewest places that hold n are those that `decimal` gives it
 module _ (n : ℕ) where

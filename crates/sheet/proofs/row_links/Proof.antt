@@ -6,8 +6,8 @@ use mathlib.Core.Path.{_≡_, refl}
 use mathlib.Core.Logic.{⊎-elim}
 use borrow.Author.Needs.{needs}
 use Rattle.rules.specs.Sets.{count}
+use Rattle.sets.specs.Loops.{count-last}
 use Rattle.sheet.specs.Writing.{isLink}
-use Rattle.sheet.proofs.LoopLaws.{count-next}
 use Rattle.sheet.proofs.row_links.Statement.{statement}
 use Rattle.sheet.proofs.row_links.Tie as tie
 
@@ -37,8 +37,8 @@ loop-again : tie.Need-loop-again Inv-loop μ-loop
 loop-again c =
     let a = c .before .before .before .loop in
     let f = c .before .is-link in
-    ⊎-elim (λ w. (omega arith, omega (arith, w .1), rw (add-one, count-next, ← a .inv .2, ← f .ensures, w .0 .taken) (w .1)))
-    (λ w. (omega arith, omega (arith, w .1), rw (add-one, count-next, ← a .inv .2, ← f .ensures, w .0 .left) (omega (arith, w .1))))
+    ⊎-elim (λ w. (omega arith, omega (arith, w .1), rw (add-one, count-last, ← a .inv .2, ← f .ensures, w .0 .taken) (w .1)))
+    (λ w. (omega arith, omega (arith, w .1), rw (add-one, count-last, ← a .inv .2, ← f .ensures, w .0 .left) (omega (arith, w .1))))
     (c .if1 .came)
 
 returns : tie.Need-returns Inv-loop μ-loop

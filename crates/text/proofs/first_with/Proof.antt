@@ -6,8 +6,8 @@ use mathlib.Core.Bool.{false}
 use borrow.Author.Count.{below-more}
 use borrow.Author.Needs.{needs}
 use Rattle.rules.specs.Sets.{mem, word}
+use Rattle.sets.specs.Loops.{least-is, least-none}
 use Rattle.text.specs.Text.{firstWith}
-use Rattle.text.proofs.NumberLaws.{least-found, least-none}
 use Rattle.text.proofs.first_with.Statement.{statement}
 use Rattle.text.proofs.first_with.Tie as tie
 
@@ -34,7 +34,7 @@ is-in-requires c κs = search needs
 
 returns : tie.Need-returns Inv-loop μ-loop
 unfolding firstWith
-returns c = least-found 16 _ _ (search needs) (c .before .before .before .before .loop .inv .1) (sym (c .before .is-in .ensures) ∙ c .if1 .taken)
+returns c = sym (least-is 16 _ _ (search needs) (c .before .before .before .before .loop .inv .1) (sym (c .before .is-in .ensures) ∙ c .if1 .taken))
 
 add-k : tie.Need-add-k Inv-loop μ-loop
 add-k c = search needs
@@ -47,7 +47,7 @@ loop-again c = (search needs, below-more _ _ (c .before .before .before .before 
 
 returns-2 : tie.Need-returns-2 Inv-loop μ-loop
 unfolding firstWith
-returns-2 c = least-none 16 _ (λ i l. c .before .loop .inv .1 i (omega arith))
+returns-2 c = sym (least-none 16 _ (λ i l. c .before .loop .inv .1 i (omega arith)))
 
 pub first-with-spec : {M : Type 1} → statement M
 first-with-spec =
