@@ -32,8 +32,8 @@ use Rattle.turns.specs.declared.Turn.{Turn}
 use Rattle.turns.specs.declared.Pair.{Pair}
 use Rattle.turns.specs.declared.Receiver.{Receiver}
 use Rattle.turns.specs.declared.Ran.{Ran}
-use Rattle.turns.specs.Turn.{searched, nextPair, sleeps, quiet, heardAt, oneList, roundOf, tookRound, tookFirst, delivered, begun, tookPair, tookDef, Took, letter, postTo, lessBusy, moreBusy, ends, Put, nextTurn, putDef, Going, turnDef, turnsDef, firstTurn, asleepRow, ownDef}
-use Rattle.turns.specs.Parts.{took, receiverOf, quietTo, oneListTo, gathered, roundTo, firstTo, deliveredTo, lessOf, leftAfter, atAfter, movedAfter, going, ran, ranOf}
+use Rattle.turns.specs.Turn.{searched, pairOf, nextPair, sleeps, quiet, heardAt, oneList, roundOf, tookRound, tookFirst, delivered, begun, tookPair, tookDef, Took, letter, postTo, lessBusy, moreBusy, ends, Put, nextTurn, putDef, Going, turnDef, turnsDef, firstTurn, asleepRow, ownDef}
+use Rattle.turns.specs.Parts.{took, receiverFrom, receiverOf, quietTo, oneListTo, gathered, roundTo, firstTo, deliveredTo, lessOf, leftAfter, atAfter, movedAfter, going, ran, ranOf}
 
 -- ---- choices
 
@@ -41,7 +41,7 @@ pub picked-else : {A : Type 0} (b c : Bool) (x y z : A) → b ≡ c → b ≡ fa
 picked-else b c x y z e f h = rw (← e, f) h
 
 -- a property of both arms
-pick : {A : Type 0} (P : A → Type 0) (b : Bool) {x y : A} → P x → P y → P (cond b x y)
+pub pick : {A : Type 0} (P : A → Type 0) (b : Bool) {x y : A} → P x → P y → P (cond b x y)
 pick P true p q = p
 pick P false p q = q
 
@@ -168,21 +168,25 @@ module _ (r : Receiver) (a : ℕ) (s : List ℕ) (n : ℕ) (e : n ≡ underWay s
 
 -- ---- and by the whole state
 
--- the receiver's words, read out of the state
-pub receiver-is : (c : Turn) (b : ℕ) (t u w : Bool) → t ≡ mem b (c .awake) → u ≡ mem b (c .stopped) → w ≡ not t && not u
-    → _≡_ {A = Receiver} (record { own = b; links = word (c .links) b; heard = word (c .heard) b; sleeps = w; stopped = u }) (receiverOf c b)
-unfolding receiverOf sleeps
-receiver-is c b t u w et eu ew = rw (ew, et, eu)
+-- the receiver's words, as the code has them
+pub receiver-is : (b links heard awake stopped : ℕ) (t u w : Bool) → t ≡ mem b awake → u ≡ mem b stopped → w ≡ not t && not u
+    → _≡_ {A = Receiver} (record { own = b; links = links; heard = heard; sleeps = w; stopped = u }) (receiverFrom b links heard awake stopped)
+receiver-is b links heard awake stopped t u w et eu ew = rw (ew, et, eu)
+
+-- and read out of the state
+pub receiver-at : (c : Turn) (b : ℕ) (r : Receiver) → r ≡ receiverFrom b (word (c .links) b) (word (c .heard) b) (c .awake) (c .stopped) → r ≡ receiverOf c b
+unfolding receiverOf
+receiver-at c b r e = e
 
 -- the same definitions twice: by the receiver's words, and by the state
-delivered-is : (c : Turn) (a b : ℕ) (s : List ℕ) → deliveredTo (receiverOf c b) a s ≡ delivered c a b s
-unfolding deliveredTo firstTo roundTo oneListTo quietTo receiverOf delivered tookFirst tookRound roundOf oneList quiet
+pub delivered-is : (c : Turn) (a b : ℕ) (s : List ℕ) → deliveredTo (receiverOf c b) a s ≡ delivered c a b s
+unfolding deliveredTo firstTo roundTo oneListTo quietTo receiverOf delivered tookFirst tookRound roundOf oneList quiet sleeps
 delivered-is c a b s = refl
 
 module _ (c : Turn) (p : Pair) (s : List ℕ) (r : Receiver) where
   pub pair-begins : (h : Arrival) → p .some ≡ true → p .«from» ≡ p .to → r ≡ receiverOf c (p .to) → h ≡ quietTo r (p .to) false (r .sleeps) (r .heard)
       → took s h ≡ tookPair c p s
-  unfolding tookPair begun quiet quietTo receiverOf
+  unfolding tookPair begun quiet quietTo receiverOf sleeps
   pair-begins h y e er eh =
       let t : eqb (p .«from») (p .to) ≡ true = eq-eqb _ _ e in
       rw (y, t, eh, er)
@@ -255,33 +259,35 @@ nothing-goes o links p e =
 
 -- ---- the next pair, and what is taken for it
 
-pub pair-listed : (list : List ℕ) (c : Turn) → c .at < c .pairs
-    → _≡_ {A = Pair} (record { some = true; «from» = word list (c .at * 2) % 16; to = word list (c .at * 2 + 1) % 16 }) (nextPair list c)
-unfolding nextPair
-pair-listed list c l = rw (lt-ltb _ _ l)
+pub pair-listed : (list busy : List ℕ) (at pairs : ℕ) → at < pairs
+    → _≡_ {A = Pair} (record { some = true; «from» = word list (at * 2) % 16; to = word list (at * 2 + 1) % 16 }) (pairOf list at pairs busy)
+pair-listed list busy at pairs l = rw (lt-ltb _ _ l)
 
-pub pair-searched : (list : List ℕ) (c : Turn) (p : Pair) → c .pairs ≤ c .at → p ≡ searched (c .busy) → p ≡ nextPair list c
-unfolding nextPair
-pair-searched list c p l e = rw (le-ltb _ _ l) e
+pub pair-searched : (list busy : List ℕ) (at pairs : ℕ) (p : Pair) → pairs ≤ at → p ≡ searched busy → p ≡ pairOf list at pairs busy
+pair-searched list busy at pairs p l e = rw (le-ltb _ _ l) e
 
-pub take-is : (list s s′ : List ℕ) (c : Turn) (p : Pair) (h : Arrival) → p ≡ nextPair list c → p .to < 16 → took s′ h ≡ tookPair c p s
+pub pair-at : (list : List ℕ) (c : Turn) (p : Pair) → p ≡ pairOf list (c .at) (c .pairs) (c .busy) → p ≡ nextPair list c
+unfolding nextPair
+pair-at list c p e = e
+
+pub take-is : (list s s′ : List ℕ) (c : Turn) (p : Pair) (h : Arrival) → p ≡ pairOf list (c .at) (c .pairs) (c .busy) → p .to < 16 → took s′ h ≡ tookPair c p s
     → (h ≡ tookDef list s c .arrival) × ((s′ ≡ tookDef list s c .store) × (h .own < 16))
 unfolding tookDef
 take-is list s s′ c p h e l t =
-    let all : took s′ h ≡ tookDef list s c = t ∙ ap (λ (q : Pair). tookPair c q s) e in
+    let all : took s′ h ≡ tookDef list s c = t ∙ ap (λ (q : Pair). tookPair c q s) (pair-at list c p e) in
     (ap (λ (k : Took). k .arrival) all, (ap (λ (k : Took). k .store) all, omega (arith, ap (λ (k : Took). k .arrival .own) t, took-own c p s l)))
 
 -- ---- what is carried on
 
 -- what stands in a table already
-set-same : (t : List ℕ) (k : ℕ) → set t k (word t k) ≡ t
-set-same [] k = refl
-set-same (x ∷ t) zero = refl
-set-same (x ∷ t) (suc k) = ap (λ (u : List ℕ). x ∷ u) (set-same t k)
+pub set-same : {A : Type 0} (t : List A) (k : ℕ) (d : A) → set t k (getD t k d) ≡ t
+set-same [] k d = refl
+set-same (x ∷ t) zero d = refl
+set-same {A} (x ∷ t) (suc k) d = ap (λ (u : List A). x ∷ u) (set-same t k d)
 
-set-if : (b : Bool) (t : List ℕ) (k x : ℕ) → cond b (set t k x) t ≡ set t k (cond b x (word t k))
+pub set-if : (b : Bool) (t : List ℕ) (k x : ℕ) → cond b (set t k x) t ≡ set t k (cond b x (word t k))
 set-if true t k x = refl
-set-if false t k x = sym (set-same t k)
+set-if false t k x = sym (set-same t k 0)
 
 -- the state that the code leaves: of each part what the code has there
 abbrev left-turn : Turn → Departure → Counts → ℕ → ℕ → ℕ → ℕ → ℕ → ℕ → ℕ → ℕ → Turn
@@ -343,14 +349,6 @@ module _ (s s₁ s₂ : List ℕ) (o : Departure) (c : Turn) (p : Counts) (to : 
   put-is left at moved awake stopped heard more el ea em ew ep eh eb = (rw (el, ea, em, ew, ep, eh, eb) (put-whole .0), put-whole .1)
 
 -- ---- a turn, and turns
-
-pub turn-is : (ls : List ℕ) (rs rs′ : List Record) (ss ss′ ss″ : List ℕ) (c r : Turn) (h : Arrival) (o : Departure)
-    → h ≡ tookDef ls ss c .arrival → ss′ ≡ tookDef ls ss c .store
-    → rs′ ≡ set rs (h .own) (stepDef (getD rs (h .own) blank) h .«record») → o ≡ stepDef (getD rs (h .own) blank) h .out
-    → r ≡ putDef ss′ o c .turn → ss″ ≡ putDef ss′ o c .store
-    → going rs′ ss″ r ≡ turnDef ls (going rs ss c)
-unfolding turnDef
-turn-is ls rs rs′ ss ss′ ss″ c r h o eh e′ er eo et e″ = rw (et, e″, eo, er, e′, eh)
 
 pub turns-over : (t : ℕ) (ls : List ℕ) (g : Going) → g .turn .left ≡ 0 → turnsDef t ls g ≡ g
 unfolding turnsDef

@@ -1,7 +1,7 @@
 -- Parts of a turn under names of their own, for the contracts of the functions that do them. What a pair brings is said of the receiver's own words alone,
 -- so that no function there is handed the whole state; that this comes to the turn's definitions is in the crate's proofs. Definitions alone.
 use Prim.Native.Nat.{ℕ, _+_, _-_, _%_, _^_}
-use mathlib.Core.Bool.{Bool, true, false, _&&_, _||_, cond}
+use mathlib.Core.Bool.{Bool, true, false, not, _&&_, _||_, cond}
 use mathlib.Core.List.{List}
 use lib.Bits.{bitOr}
 use lib.Dec.{eqb, ltb}
@@ -15,7 +15,7 @@ use Rattle.mail.specs.Gather.{Got, gotNothing, wireOf, gatherTo}
 use Rattle.turns.specs.declared.Turn.{Turn}
 use Rattle.turns.specs.declared.Receiver.{Receiver}
 use Rattle.turns.specs.declared.Ran.{Ran}
-use Rattle.turns.specs.Turn.{Took, sleeps, Going}
+use Rattle.turns.specs.Turn.{Took, Going}
 
 -- the store, and what code has taken from it
 abbrev pub took : List ℕ → Arrival → Took
@@ -23,8 +23,11 @@ took s h = record { store = s; arrival = h }
 
 -- ---- what a pair brings, as `quiet` to `delivered` have it
 
+abbrev pub receiverFrom : ℕ → ℕ → ℕ → ℕ → ℕ → Receiver
+receiverFrom b links heard awake stopped = record { own = b; links = links; heard = heard; sleeps = not (mem b awake) && not (mem b stopped); stopped = mem b stopped }
+
 unfoldable pub receiverOf : Turn → ℕ → Receiver
-receiverOf c b = record { own = b; links = word (c .links) b; heard = word (c .heard) b; sleeps = sleeps c b; stopped = mem b (c .stopped) }
+receiverOf c b = receiverFrom b (word (c .links) b) (word (c .heard) b) (c .awake) (c .stopped)
 
 unfoldable pub quietTo : Receiver → ℕ → Bool → Bool → ℕ → Arrival
 quietTo r a moved wakes heard = record {

@@ -30,11 +30,14 @@ searched busy =
     let some = ltb a 16 in
     record { some = some; «from» = cond some a 0; to = cond some (least 16 (λ b. mem b (word busy a))) 0 }
 
+abbrev pub pairOf : List ℕ → ℕ → ℕ → List ℕ → Pair
+pairOf list at pairs busy =
+    cond (ltb at pairs)
+    (record { some = true; «from» = word list (at * 2) % 16; to = word list (at * 2 + 1) % 16 })
+    (searched busy)
+
 unfoldable pub nextPair : List ℕ → Turn → Pair
-nextPair list c =
-    cond (ltb (c .at) (c .pairs))
-    (record { some = true; «from» = word list (c .at * 2) % 16; to = word list (c .at * 2 + 1) % 16 })
-    (searched (c .busy))
+nextPair list c = pairOf list (c .at) (c .pairs) (c .busy)
 
 -- ---- what it brings to the receiver
 

@@ -8,8 +8,9 @@ ghost use Rattle.rules.specs.Sets.{mem, without};
 ghost use Rattle.wires.specs.Wires.{sixteen, none};
 ghost use Rattle.mail.specs.Gather.{clearTo, wireOf};
 ghost use Rattle.mail.specs.Letter.{posted, postLink};
-ghost use Rattle.turns.specs.Turn.{searched, nextPair, tookPair, tookDef, postTo, putDef, turnDef, turnsDef, firstTurn, asleepRow, ownDef};
-ghost use Rattle.turns.specs.Parts.{took, receiverOf, quietTo, oneListTo, roundTo, firstTo, deliveredTo, lessOf, leftAfter, atAfter, movedAfter, going, ran, ranOf};
+ghost use Rattle.turns.specs.Turn.{searched, pairOf, tookPair, tookDef, postTo, putDef, turnsDef, firstTurn, asleepRow, ownDef};
+ghost use Rattle.turns.specs.Parts.{took, receiverFrom, quietTo, oneListTo, roundTo, firstTo, deliveredTo, lessOf, leftAfter, atAfter, movedAfter, going, ran, ranOf};
+ghost use Rattle.turns.specs.Pass.{seenAs, glanced, glanceFirst, glanceTo, glancePair, kept, passAll, onDef};
 use boxes::Arrival;
 use boxes::Departure;
 use boxes::Record;
@@ -45,8 +46,8 @@ pub struct Turn {
 // ---- the next pair
 
 // "It searches senders ascending, then receivers, and leaves the search at the first wire that holds a message."
-fn search(busy: [u16; 16]) -> Pair
-    ensures { λ r. ⌜ (r ≡ searched busy) × ((r .«from» < 16) × (r .to < 16)) ⌝ }
+fn search(busy: &[u16; 16]) -> Pair
+    ensures { λ r. ⌜ (r ≡ searched (now (busy .entry))) × ((r .«from» < 16) × (r .to < 16)) ⌝ }
 {
     let mut p = Pair {
         some: false,
@@ -72,12 +73,11 @@ fn search(busy: [u16; 16]) -> Pair
 }
 
 // The pairs of the list, while it lasts; then the search.
-fn next_pair(list: &[u8], c: Turn) -> Pair
-    requires { ⌜ c .pairs * 2 ≤ length (now list) ⌝ }
-    ensures { λ r. ⌜ (r ≡ nextPair (now (list .entry)) c) × ((r .«from» < 16) × (r .to < 16)) ⌝ }
+fn next_pair(list: &[u8], at: usize, pairs: usize, busy: &[u16; 16]) -> Pair
+    requires { ⌜ pairs * 2 ≤ length (now list) ⌝ }
+    ensures { λ r. ⌜ (r ≡ pairOf (now (list .entry)) at pairs (now (busy .entry))) × ((r .«from» < 16) × (r .to < 16)) ⌝ }
 {
-    let at = c.at;
-    if at < c.pairs {
+    if at < pairs {
         let k = at * 2;
         return Pair {
             some: true,
@@ -85,7 +85,6 @@ fn next_pair(list: &[u8], c: Turn) -> Pair
             to: (list[k + 1] % 16) as usize,
         };
     }
-    let busy = c.busy;
     search(busy)
 }
 
@@ -109,17 +108,17 @@ fn sleeps(awake: bool, stopped: bool) -> bool
     !stopped
 }
 
-fn receiver_of(c: Turn, b: usize) -> Receiver
+fn receiver_of(b: usize, links: u16, heard: u16, awake: u16, stopped: u16) -> Receiver
     requires { ⌜ b < 16 ⌝ }
-    ensures { λ r. ⌜ (r ≡ receiverOf c b) × (r .own < 16) ⌝ }
+    ensures { λ r. ⌜ (r ≡ receiverFrom b links heard awake stopped) × (r .own ≡ b) ⌝ }
 {
-    let stopped = sets::is_in(c.stopped, b);
+    let ended = sets::is_in(stopped, b);
     Receiver {
         own: b,
-        links: c.links[b],
-        heard: c.heard[b],
-        sleeps: sleeps(sets::is_in(c.awake, b), stopped),
-        stopped: stopped,
+        links: links,
+        heard: heard,
+        sleeps: sleeps(sets::is_in(awake, b), ended),
+        stopped: ended,
     }
 }
 
@@ -229,13 +228,14 @@ fn take_pair(store: &mut [u32], p: Pair, c: Turn) -> Arrival
     ensures { λ h. ⌜ took (now (store .exit)) h ≡ tookPair c p (now (store .entry)) ⌝ }
 {
     if p.some {
-        let r = receiver_of(c, p.to);
+        let b = p.to;
+        let r = receiver_of(b, c.links[b], c.heard[b], c.awake, c.stopped);
         if p.from == p.to {
             return quiet(r, p.to, false, r.sleeps, r.heard);
         }
         return take_oldest(store, r, p.from);
     }
-    let r = receiver_of(c, 0);
+    let r = receiver_of(0, c.links[0], c.heard[0], c.awake, c.stopped);
     quiet(r, 0, false, false, r.heard)
 }
 
@@ -243,7 +243,8 @@ fn take(store: &mut [u32], list: &[u8], c: Turn) -> Arrival
     requires { ⌜ (length (now store) ≡ 9216) × (c .pairs * 2 ≤ length (now list)) ⌝ }
     ensures { λ h. ⌜ (h ≡ tookDef (now (list .entry)) (now (store .entry)) c .arrival) × ((now (store .exit) ≡ tookDef (now (list .entry)) (now (store .entry)) c .store) × (h .own < 16)) ⌝ }
 {
-    let p = next_pair(list, c);
+    let busy = c.busy;
+    let p = next_pair(list, c.at, c.pairs, &busy);
     take_pair(store, p, c)
 }
 
@@ -439,16 +440,122 @@ fn put(store: &mut [u32], o: Departure, c: Turn) -> Turn
     n
 }
 
+// ---- turns that touch no record
+
+// What a look at the next pair shows: whether the record stays as it is, whether a message was moved, and the links whose queue then holds one.
+pub struct Glance {
+    pub quiet: bool,
+    pub moved: bool,
+    pub heard: u16,
+}
+
+fn seen(quiet: bool, moved: bool, heard: u16) -> Glance
+    ensures { λ k. ⌜ k ≡ seenAs quiet moved heard ⌝ }
+{
+    Glance {
+        quiet: quiet,
+        moved: moved,
+        heard: heard,
+    }
+}
+
+// The queue of the wire from a is empty, and the box is awake: a set that completes no round only waits.
+fn look_first(store: &mut [u32], r: Receiver, a: usize) -> Glance
+    requires { ⌜ (length (now store) ≡ 9216) × ((a < 16) × (r .own < 16)) ⌝ }
+    ensures { λ k. ⌜ glanced (now (store .exit)) k ≡ glanceFirst r a (now (store .entry)) ⌝ }
+{
+    let i = a * 16 + r.own;
+    if wires::is_list(wires::first(store, i)) {
+        return seen(false, false, r.heard);
+    }
+    let heard = r.heard | sets::only(a);
+    if heard == r.links {
+        return seen(false, false, r.heard);
+    }
+    wires::arrive(store, i);
+    seen(true, true, heard)
+}
+
+// The oldest message from a is moved where that touches no record; else nothing is done.
+fn look(store: &mut [u32], r: Receiver, a: usize) -> Glance
+    requires { ⌜ (length (now store) ≡ 9216) × ((a < 16) × (r .own < 16)) ⌝ }
+    ensures { λ k. ⌜ glanced (now (store .exit)) k ≡ glanceTo r a (now (store .entry)) ⌝ }
+{
+    let i = a * 16 + r.own;
+    if wires::under_way(store, i) == 0 {
+        return seen(true, false, r.heard);
+    }
+    if r.stopped {
+        wires::skip(store, i);
+        return seen(true, true, r.heard);
+    }
+    if r.sleeps {
+        return seen(false, false, r.heard);
+    }
+    if wires::queued(store, i) == 0 {
+        return look_first(store, r, a);
+    }
+    wires::arrive(store, i);
+    seen(true, true, r.heard)
+}
+
+// A box that has started starts no more; where the search finds no wire, the run is over.
+fn look_at(store: &mut [u32], p: Pair, r: Receiver) -> Glance
+    requires { ⌜ (length (now store) ≡ 9216) × ((p .«from» < 16) × (r .own < 16)) ⌝ }
+    ensures { λ k. ⌜ glanced (now (store .exit)) k ≡ glancePair p r (now (store .entry)) ⌝ }
+{
+    if p.some {
+        if p.from == r.own {
+            return seen(!r.sleeps, false, r.heard);
+        }
+        return look(store, r, p.from);
+    }
+    seen(false, false, r.heard)
+}
+
+// As many turns as touch no record, one after the other: most turns of a run, with no step and no table copied.
+fn pass(store: &mut [u32], list: &[u8], c: Turn) -> Turn
+    requires { ⌜ (length (now store) ≡ 9216) × (c .pairs * 2 ≤ length (now list)) ⌝ }
+    ensures { λ r. ⌜ kept (now (store .exit)) r ≡ passAll (now (list .entry)) (kept (now (store .entry)) c) ⌝ }
+{
+    let mut q = c;
+    while 0 < q.left {
+        let p = next_pair(list, q.at, q.pairs, &q.busy);
+        let a = p.from;
+        let b = p.to;
+        let r = receiver_of(b, q.links[b], q.heard[b], q.awake, q.stopped);
+        let k = look_at(store, p, r);
+        if !k.quiet {
+            return q;
+        }
+        q.heard[b] = k.heard;
+        q.busy[a] = less_busy(store, k.moved, a, b, q.busy[a]);
+        q.moved = moved_after(q.moved, k.moved);
+        q.left = left_after(q.left, q.at, q.pairs, k.moved);
+        q.at = at_after(q.at, q.pairs);
+    }
+    q
+}
+
+// What goes out, and the turns after it that touch no record.
+fn go_on(store: &mut [u32], list: &[u8], o: Departure, c: Turn) -> Turn
+    requires { ⌜ (length (now store) ≡ 9216) × ((1 ≤ c .left) × (c .pairs * 2 ≤ length (now list))) ⌝ }
+    ensures { λ r. ⌜ kept (now (store .exit)) r ≡ passAll (now (list .entry)) (putDef (now (store .entry)) o c) ⌝ }
+{
+    let n = put(store, o, c);
+    pass(store, list, n)
+}
+
 // ---- turns
 
-// One turn: the row and the store are both lent.
+// One turn, and those after it that touch no record: the row and the store are both lent.
 fn one_turn(row: &mut [Record], store: &mut [u32], list: &[u8], c: Turn) -> Turn
     requires { ⌜ (length (now row) ≡ 16) × ((length (now store) ≡ 9216) × ((1 ≤ c .left) × (c .pairs * 2 ≤ length (now list)))) ⌝ }
-    ensures { λ r. ⌜ going (now (row .exit)) (now (store .exit)) r ≡ turnDef (now (list .entry)) (going (now (row .entry)) (now (store .entry)) c) ⌝ }
+    ensures { λ r. ⌜ going (now (row .exit)) (now (store .exit)) r ≡ onDef (now (list .entry)) (going (now (row .entry)) (now (store .entry)) c) ⌝ }
 {
     let h = take(store, list, c);
     let o = boxes::deliver_at(row, h.own, h);
-    put(store, o, c)
+    go_on(store, list, o, c)
 }
 
 // One loop for the list and for the drain: it goes on while the state says so.

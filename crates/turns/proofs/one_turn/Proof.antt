@@ -1,6 +1,7 @@
 -- `turns::one_turn` meets its contract: a walk of its MIR, by hand, with two `&mut` parameters and a `&`. The store's borrow is opened, lent to the covered `take` for a
--- lifetime that is made for the call, comes back and is closed. The row is then passed on to `boxes::deliver_at` for good, and the store to the covered `put` for good:
--- each at its own lifetime, with nothing opened (`gave-slice`). Of the list and of the plain parameters nothing is kept (`stay-dropped`). Assumes nothing.
+-- lifetime that is made for the call, comes back and is closed. The row is then passed on to `boxes::deliver_at` for good, and the store to the covered `go_on` for good:
+-- each at its own lifetime, with nothing opened (`gave-slice`). The list is copied for the second call that reads it; of it and of the plain parameters nothing is kept
+-- (`stay-dropped`). Assumes nothing.
 use mathlib.Core.Path.{_≡_, refl, sym, _∙_, ap, subst}
 use Prim.Native.Nat.{ℕ, _<_, _≤_, _^_, _*_, _+_, _%_}
 use native.Mathlib.Omega.{arith}
@@ -32,7 +33,7 @@ use denote.Memory.{mem}
 use denote.Plain.{uint-vals, uint-tells, uint-makes}
 use denote.Builtin.{u8, u32, usize}
 use denote.Ref.{RefT}
-use denote.Slice.{sliceVal, MutSlice, ShrSlice, Room, finally, heres, codedHoleys, at-slice, slice-vals, mut-slice-tells, shr-slice-tells}
+use denote.Slice.{sliceVal, MutSlice, ShrSlice, Room, finally, heres, codedHoleys, at-slice, slice-vals, mut-slice-tells, shr-slice-tells, shr-slice-copy}
 use denote.Lend.{Held, lends-slice, slice-back}
 use denote.Index.{row, whole-in, whole-out, opens-slice, closes-slice}
 use denote.Signature.{plain, shrSliceOf}
@@ -52,9 +53,10 @@ use Rattle.boxes.specs.declared.Departure.{Departure}
 use Rattle.boxes.specs.Record.{blank}
 use Rattle.boxes.specs.Step.{stepDef}
 use Rattle.turns.specs.declared.Turn.{Turn}
-use Rattle.turns.specs.Turn.{tookDef, putDef, Going, turnDef}
+use Rattle.turns.specs.Turn.{tookDef, putDef, Going}
 use Rattle.turns.specs.Parts.{going}
-use Rattle.turns.proofs.Laws.{turn-is}
+use Rattle.turns.specs.Pass.{kept, passAll, onDef}
+use Rattle.turns.proofs.PassLaws.{on-is}
 use Rattle.boxes.proofs.Record as T
 use Rattle.boxes.proofs.Arrival as P
 use Rattle.boxes.proofs.Arrival.Laws as P′
@@ -70,10 +72,10 @@ use Rattle.boxes.proofs.deliver_at as deliver-at
 use Rattle.boxes.proofs.deliver_at.Symbol as deliver-at-def
 use Rattle.boxes.proofs.deliver_at.Symbol.{name as #boxes·deliver-at}
 use Rattle.boxes.proofs.deliver_at.Met as deliver-at-thm
-use Rattle.turns.proofs.put as put
-use Rattle.turns.proofs.put.Symbol as put-def
-use Rattle.turns.proofs.put.Symbol.{name as #turns·put}
-use Rattle.turns.proofs.put.Met as put-thm
+use Rattle.turns.proofs.go_on as go-on
+use Rattle.turns.proofs.go_on.Symbol as go-on-def
+use Rattle.turns.proofs.go_on.Symbol.{name as #turns·go-on}
+use Rattle.turns.proofs.go_on.Met as go-on-thm
 use Rattle.turns.proofs.one_turn.Key.{name as #turns·one-turn}
 use Rattle.turns.proofs.one_turn as one
 use Rattle.turns.proofs.one_turn.Statement as stated
@@ -105,8 +107,8 @@ module _ {M : Type 1} (𝓤 : URA M) (H : Heap 𝓤) (A : Atoms 𝓤) (at-mem : 
   abbrev Deliver : Contract 𝓤
   Deliver = tripleOf 𝓤 H A deliver-at.signature (deliver-at.spec 𝓤 H A at-mem run)
 
-  abbrev Put : Contract 𝓤
-  Put = tripleOf 𝓤 H A put.signature (put.spec 𝓤 H A at-mem run)
+  abbrev GoOn : Contract 𝓤
+  GoOn = tripleOf 𝓤 H A go-on.signature (go-on.spec 𝓤 H A at-mem run)
 
 module _ {M : Type 1} (𝓤 : URA M) (H : Heap 𝓤) (A : Atoms 𝓤) (W : Given 𝓤 H A) (at-mem : Memory → SProp 𝓤) (run : Routine → Fun 𝓤) (κ₀ κ₁ κ₂ : Lft) (q₀ q₁ q₂ : Share)
     (x₀ : RefT (List Record)) (x₁ : RefT (List ℕ)) (x₂ : RefT (List ℕ)) (c : Turn) (c-is : Is N.the-row c (turn-val c ∷ []))
@@ -152,7 +154,7 @@ module _ {M : Type 1} (𝓤 : URA M) (H : Heap 𝓤) (A : Atoms 𝓤) (W : Given
   Post = walkOf 𝓤 H A one.ended stayed (one.clauses 𝓤 H A at-mem run) .post (((κ₀, (κ₁, (κ₂, tt))), (q₀, (q₁, (q₂, tt))), tt, a, vals), tt)
 
   abbrev After : Going
-  After = turnDef ls (going rs ss c)
+  After = onDef ls (going rs ss c)
 
   exits : (v : Val) (r : Turn) (rs′ : List Record) (ss′ : List ℕ) → length rs′ ≡ length rs → length ss′ ≡ length ss → going rs′ ss′ r ≡ After
       → ent 𝓤 (⋆ 𝓤 H A (‵ (finally R (x₀ .name) rs′) ∷ ‵ (finally u32 (x₁ .name) ss′) ∷ (‵ (flft κ₀ q₀) ⊛ ‵ ftrue) ∷ (‵ (flft κ₁ q₁) ⊛ ‵ ftrue) ∷ (‵ (flft κ₂ q₂) ⊛ ‵ ftrue) ∷ ‵ (N.the-row .own r (v ∷ [])) ∷ [])) (Post v)
@@ -182,13 +184,15 @@ module _ {M : Type 1} (𝓤 : URA M) (H : Heap 𝓤) (A : Atoms 𝓤) (W : Given
       qed W (‵ (flft κ₀ q₀) ∷ ‵ (MutSlice (named 0) κ₀ R .own x₀ (s₀ ∷ [])) ∷ []) ∵ says ! ok $ nothing ! $ move ! (1 ∷ 0 ∷ []) $ join ! $ frame ! $
       nothing ! $ owned ! P.the-row (Is P.the-row) (LL.makes P.the-type P′.the-plain 𝓤 H A) h _ is $ fjoin ! $ owned ! usize (Is usize) (uint-makes 𝓤 H A W w64) (h .own) _ (fields .0) $ fjoin ! $ move ! (1 ∷ 0 ∷ []) $ fjoin ! $ done !
 
-  abbrev to-put : List ℕ → Departure → Put 𝓤 H A at-mem run .Ghost
-  to-put ss′ o = (((κ₁, tt), (q₁, tt), tt, (st (x₁ .name) ss′, (o, (c, tt))), (s₁ ∷ [], (departure-val o ∷ [], (turn-val c ∷ [], tt)))), tt)
+  abbrev to-go-on : List ℕ → Departure → GoOn 𝓤 H A at-mem run .Ghost
+  to-go-on ss′ o = (((κ₁, (κ₂, tt)), (q₁, (q₂, tt)), tt, (st (x₁ .name) ss′, (x₂, (o, (c, tt)))), (s₁ ∷ [], (s₂ ∷ [], (departure-val o ∷ [], (turn-val c ∷ [], tt))))), tt)
 
-  goes-put : (ss′ : List ℕ) (o : Departure) → Is Q.the-row o (departure-val o ∷ []) → length ss′ ≡ 9216 → ent 𝓤 (sep 𝓤 (A .lft κ₁ q₁) (sem 𝓤 H A (MutSlice (named 0) κ₁ u32 .own (st (x₁ .name) ss′) (s₁ ∷ [])))) (Put 𝓤 H A at-mem run .pre (to-put ss′ o))
-  goes-put ss′ o is ok =
-      qed W (‵ (flft κ₁ q₁) ∷ ‵ (MutSlice (named 0) κ₁ u32 .own (st (x₁ .name) ss′) (s₁ ∷ [])) ∷ []) ∵ says ! (ok, some-left) $ nothing ! $ move ! (1 ∷ 0 ∷ []) $ join ! $ frame ! $
-      nothing ! $ owned ! N.the-row (Is N.the-row) (LL.makes N.the-type N′.the-plain 𝓤 H A) c _ c-is $ fjoin ! $ owned ! Q.the-row (Is Q.the-row) (LL.makes Q.the-type Q′.the-plain 𝓤 H A) o _ is $ fjoin ! $ move ! (1 ∷ 0 ∷ []) $ fjoin ! $ done !
+  goes-on : (ss′ : List ℕ) (o : Departure) → Is Q.the-row o (departure-val o ∷ []) → length ss′ ≡ 9216
+      → ent 𝓤 (sep 𝓤 (sep 𝓤 (A .lft κ₁ q₁) (A .lft κ₂ q₂)) (sep 𝓤 (sem 𝓤 H A (MutSlice (named 0) κ₁ u32 .own (st (x₁ .name) ss′) (s₁ ∷ []))) (sem 𝓤 H A (ShrSlice (named 1) κ₂ u8 .own x₂ (s₂ ∷ []))))) (GoOn 𝓤 H A at-mem run .pre (to-go-on ss′ o))
+  goes-on ss′ o is ok =
+      qed W ((‵ (flft κ₁ q₁) ⊛ ‵ (flft κ₂ q₂)) ∷ ‵ (MutSlice (named 0) κ₁ u32 .own (st (x₁ .name) ss′) (s₁ ∷ [])) ∷ ‵ (ShrSlice (named 1) κ₂ u8 .own x₂ (s₂ ∷ [])) ∷ []) ∵ says ! (ok, (some-left, within)) $
+      split ! $ nothing ! $ move ! (2 ∷ 0 ∷ []) $ join ! $ move ! (1 ∷ 0 ∷ []) $ join ! $ frame ! $
+      nothing ! $ owned ! N.the-row (Is N.the-row) (LL.makes N.the-type N′.the-plain 𝓤 H A) c _ c-is $ fjoin ! $ owned ! Q.the-row (Is Q.the-row) (LL.makes Q.the-type Q′.the-plain 𝓤 H A) o _ is $ fjoin ! $ move ! (2 ∷ 0 ∷ []) $ fjoin ! $ move ! (1 ∷ 0 ∷ []) $ fjoin ! $ done !
 
   -- what each callee ensures
   abbrev Took′ : Arrival → List ℕ → Type 0
@@ -197,10 +201,10 @@ module _ {M : Type 1} (𝓤 : URA M) (H : Heap 𝓤) (A : Atoms 𝓤) (W : Given
   abbrev Delivered : Arrival → Departure → List Record → Type 0
   Delivered h o rs′ = (rs′ ≡ set rs (h .own) (stepDef (getD rs (h .own) blank) h .«record»)) × (o ≡ stepDef (getD rs (h .own) blank) h .out)
 
-  abbrev Put′ : List ℕ → Departure → Turn → List ℕ → Type 0
-  Put′ ss′ o r ss″ = (r ≡ putDef ss′ o c .turn) × (ss″ ≡ putDef ss′ o c .store)
+  abbrev WentOn : List ℕ → Departure → Turn → List ℕ → Type 0
+  WentOn ss′ o r ss″ = kept ss″ r ≡ passAll ls (putDef ss′ o c)
 
-  module _ (C : Calls 𝓤 H) (Λ : Loops 𝓤 H) (fm : FmC 𝓤 H (W .laws) C) (known-take : Triple 𝓤 (C #turns·take) (Take 𝓤 H A at-mem run)) (known-deliver : Triple 𝓤 (C #boxes·deliver-at) (Deliver 𝓤 H A at-mem run)) (known-put : Triple 𝓤 (C #turns·put) (Put 𝓤 H A at-mem run)) where
+  module _ (C : Calls 𝓤 H) (Λ : Loops 𝓤 H) (fm : FmC 𝓤 H (W .laws) C) (known-take : Triple 𝓤 (C #turns·take) (Take 𝓤 H A at-mem run)) (known-deliver : Triple 𝓤 (C #boxes·deliver-at) (Deliver 𝓤 H A at-mem run)) (known-go-on : Triple 𝓤 (C #turns·go-on) (GoOn 𝓤 H A at-mem run)) where
     walk : Room R (length rs) → Room u32 (length ss) → Room u8 (length ls) → ent 𝓤 (onEntry 𝓤 H A one.signature (κ₀, (κ₁, (κ₂, tt))) (q₀, (q₁, (q₂, tt))) a vals) (WpFn 𝓤 H C Λ code.function (s₀ ∷ s₁ ∷ s₂ ∷ turn-val c ∷ []) Post)
     walk room₀ room₁ room₂ =
         qed W ((‵ (flft κ₀ q₀) ⊛ (‵ (flft κ₁ q₁) ⊛ (‵ (flft κ₂ q₂) ⊛ ‵ ftrue))) ∷ ‵ (owns (MutSlice (named 0) κ₀ R ∷ MutSlice (named 1) κ₁ u32 ∷ ShrSlice (named 2) κ₂ u8 ∷ N.the-row ∷ []) a vals) ∷ []) ∵ enter ! C Λ code.function (s₀ ∷ s₁ ∷ s₂ ∷ turn-val c ∷ []) _ $
@@ -220,60 +224,63 @@ module _ {M : Type 1} (𝓤 : URA M) (H : Heap 𝓤) (A : Atoms 𝓤) (W : Given
         use1 W (later (some (λ (δ : GName). ‵ (MutSlice (named 0) (ν ∷ []) u32 .own (st δ ss) (s₁ ∷ [])) ⊛ ‵ (flent (ν ∷ []) (Held u32 (length ss) (x₁ .ptr .0) (x₁ .ptr .1) δ)))))
         (lends-slice 𝓤 H A W u32 (named 0) (ν ∷ []) ss (x₁ .ptr .0) (x₁ .ptr .1) room₁) $ await ! tt $ pick ! (λ δ. split ! $
         -- [the store lent; the lender's part; ν's token; the open borrow; obs; auth; the list's token; the row's; list; row; _13; …]
-        move ! (2 ∷ 6 ∷ 0 ∷ 8 ∷ []) $ join ! $ use3 W (raw (Take 𝓤 H A at-mem run .pre (to-take ν δ))) (goes-take ν δ) $
-        calls-at ! fm (Take 𝓤 H A at-mem run) known-take (to-take ν δ) (and-then ! (load ! (from ! (stop !)) (look ! 15 refl)) (and-then ! (load ! (from ! (stop !)) (look ! 25 refl)) (and-then ! (load ! (from ! (stop !)) (look ! 23 refl)) (no-more !)))) (λ w.
+        move ! (8 ∷ []) $ use1 W (‵ (ShrSlice (named 2) κ₂ u8 .own x₂ (s₂ ∷ [])) ⊛ ‵ (ShrSlice (named 2) κ₂ u8 .own x₂ (s₂ ∷ []))) (shr-slice-copy 𝓤 H A W (named 2) κ₂ u8 .twice x₂ (s₂ ∷ [])) $ split ! $
+        -- [list; list; the store lent; the lender's part; ν's token; …]: one for each call that reads it
+        move ! (4 ∷ 8 ∷ 2 ∷ 0 ∷ []) $ join ! $ use3 W (raw (Take 𝓤 H A at-mem run .pre (to-take ν δ))) (goes-take ν δ) $
+        calls-at ! fm (Take 𝓤 H A at-mem run) known-take (to-take ν δ) (and-then ! (load ! (from ! (stop !)) (look ! 16 refl)) (and-then ! (load ! (from ! (stop !)) (look ! 26 refl)) (and-then ! (load ! (from ! (stop !)) (look ! 24 refl)) (no-more !)))) (λ w.
         use1 W (later (some (λ (r : Arrival). ((‵ (flft (ν ∷ []) fullShare) ⊛ (‵ (flft κ₂ q₂) ⊛ ‵ ftrue)) ⊛ ‵ (P.the-row .own r (w ∷ []))) ⊛ raw (ensured 𝓤 H A take.ended (take.clauses 𝓤 H A at-mem run) (ν ∷ [], (κ₂, tt)) (st δ ss, (x₂, (c, tt))) tt r)))) (id⊢ 𝓤 _) $ await ! tt $ pick ! (λ h.
         split ! $ move ! (1 ∷ []) $ use1 W (some (λ (ws : List ℕ × (Unit {0} × (Unit {0} × Unit {0}))). ‵ (lasts take.ended (ν ∷ [], (κ₂, tt)) (st δ ss, (x₂, (c, tt))) ws) ⊛ raw (fact 𝓤 (Took′ h (ws .0))))) (id⊢ 𝓤 _) $ pick ! (λ ws.
         split ! $ move ! (1 ∷ []) $ heard ! (Took′ h (ws .0)) (λ g. fsplit ! $ fsplit ! $ move ! (1 ∷ []) $ feqL ! (λ k.
-        move ! (2 ∷ []) $ split ! $ move ! (1 ∷ []) $ peeks ! P.the-row (Is P.the-row) (shows 𝓤 H A P.the-row) h (w ∷ []) (λ is. land ! (from ! (stop !)) (init ! 24 refl (arrival-typed h w is)) $
-        rewrite ! 24 (λ (u : Val). ‵ (fat fullShare P′.mir l₅ 0 u)) (ap only (LL.tells P.the-type P′.the-laws h _ is)) refl $ drop ! $
-        split ! $ lft-end ! tt $ move ! (0 ∷ 4 ∷ 2 ∷ []) $ use3 W (later (‵ (Arr (mem u32) (length ss) .lies (ws .0) (x₁ .ptr .0) (x₁ .ptr .1)))) (slice-back 𝓤 H A W u32 (ν ∷ []) δ (ws .0) (length ss) (x₁ .ptr .0) (x₁ .ptr .1)) $ await ! tt $ fsplit ! $ drop ! $
-        -- [the words; the list's token; …; the open borrow; obs; auth; the row's token; row; _13; …]: the store's borrow is closed, and the store is a reference again
-        use1 W (‵ (row u32 fullShare (ws .0) (x₁ .ptr .0) (x₁ .ptr .1))) (whole-out 𝓤 H A W u32 (ws .0) (x₁ .ptr .0) (x₁ .ptr .1)) $ move ! (0 ∷ 3 ∷ 4 ∷ 5 ∷ []) $ closes-slice ! tt u32 ss (ws .0) k (x₁ .ptr .0) (x₁ .ptr .1) $
+        move ! (2 ∷ []) $ split ! $ move ! (1 ∷ []) $ peeks ! P.the-row (Is P.the-row) (shows 𝓤 H A P.the-row) h (w ∷ []) (λ is. land ! (from ! (stop !)) (init ! 25 refl (arrival-typed h w is)) $
+        rewrite ! 25 (λ (u : Val). ‵ (fat fullShare P′.mir l₅ 0 u)) (ap only (LL.tells P.the-type P′.the-laws h _ is)) refl $ drop ! $
+        split ! $ lft-end ! tt $ move ! (0 ∷ 5 ∷ 2 ∷ []) $ use3 W (later (‵ (Arr (mem u32) (length ss) .lies (ws .0) (x₁ .ptr .0) (x₁ .ptr .1)))) (slice-back 𝓤 H A W u32 (ν ∷ []) δ (ws .0) (length ss) (x₁ .ptr .0) (x₁ .ptr .1)) $ await ! tt $ fsplit ! $ drop ! $
+        -- [the words; the list's token; …; list; the open borrow; obs; auth; the row's token; row; _13; …]: the store's borrow is closed, and the store is a reference again
+        use1 W (‵ (row u32 fullShare (ws .0) (x₁ .ptr .0) (x₁ .ptr .1))) (whole-out 𝓤 H A W u32 (ws .0) (x₁ .ptr .0) (x₁ .ptr .1)) $ move ! (0 ∷ 4 ∷ 5 ∷ 6 ∷ []) $ closes-slice ! tt u32 ss (ws .0) k (x₁ .ptr .0) (x₁ .ptr .1) $
         fjoin ! $ pureI ! (at-slice u32 (st (x₁ .name) (ws .0)) (s₁ ∷ [])) (tt, (tt, tt)) (ap (λ (j : ℕ). sliceVal (x₁ .ptr) j ∷ []) (sym k), subst (Room u32) (sym k) room₁) $ fjoin ! $
-        -- [store; its token; the list's token; …; the row's token; row; _13; …]: the row is passed on
-        assigns ! (addr ! (from ! (fld ! refl (hop ! (look-in ! 28 (sub ! 0 refl (whole !))) (stop !))))) (from ! (stop !)) (init ! 12 refl (tt, tt)) $
-        assigns ! (agg ! (and-then ! (load ! (from ! (stop !)) (look ! 12 refl)) (and-then ! (load ! (from ! (fld ! refl (stop !))) (look-in ! 28 (sub ! 1 refl (whole !)))) (no-more !)))) (from ! (stop !)) (init ! 10 refl (tt, (tt, (record { fits = room₀ .0 }, tt)))) $
-        move ! (4 ∷ 5 ∷ []) $ use2 W (raw (Deliver 𝓤 H A at-mem run .pre (to-deliver h))) (goes-deliver h (subst (Is P.the-row h) (LL.tells P.the-type P′.the-laws h _ is) is) (below sixteen (g .1 .1))) $
-        calls-at ! fm (Deliver 𝓤 H A at-mem run) known-deliver (to-deliver h) (and-then ! (load ! (from ! (stop !)) (look ! 9 refl)) (and-then ! (load ! (from ! (fld ! refl (stop !))) (look-in ! 19 (sub ! 0 refl (whole !)))) (and-then ! (load ! (from ! (stop !)) (look ! 19 refl)) (no-more !)))) (λ w₁.
+        -- [store; its token; the list's token; …; list; the row's token; row; _13; …]: the row is passed on
+        assigns ! (addr ! (from ! (fld ! refl (hop ! (look-in ! 29 (sub ! 0 refl (whole !))) (stop !))))) (from ! (stop !)) (init ! 13 refl (tt, tt)) $
+        assigns ! (agg ! (and-then ! (load ! (from ! (stop !)) (look ! 13 refl)) (and-then ! (load ! (from ! (fld ! refl (stop !))) (look-in ! 29 (sub ! 1 refl (whole !)))) (no-more !)))) (from ! (stop !)) (init ! 11 refl (tt, (tt, (record { fits = room₀ .0 }, tt)))) $
+        move ! (5 ∷ 6 ∷ []) $ use2 W (raw (Deliver 𝓤 H A at-mem run .pre (to-deliver h))) (goes-deliver h (subst (Is P.the-row h) (LL.tells P.the-type P′.the-laws h _ is) is) (below sixteen (g .1 .1))) $
+        calls-at ! fm (Deliver 𝓤 H A at-mem run) known-deliver (to-deliver h) (and-then ! (load ! (from ! (stop !)) (look ! 10 refl)) (and-then ! (load ! (from ! (fld ! refl (stop !))) (look-in ! 20 (sub ! 0 refl (whole !)))) (and-then ! (load ! (from ! (stop !)) (look ! 20 refl)) (no-more !)))) (λ w₁.
         use1 W (later (some (λ (r : Departure). ((‵ (flft κ₀ q₀) ⊛ ‵ ftrue) ⊛ ‵ (Q.the-row .own r (w₁ ∷ []))) ⊛ raw (ensured 𝓤 H A deliver-at.ended (deliver-at.clauses 𝓤 H A at-mem run) (κ₀, tt) (x₀, (h .own, (h, tt))) tt r)))) (id⊢ 𝓤 _) $ await ! tt $ pick ! (λ o.
         split ! $ move ! (1 ∷ []) $ use1 W (some (λ (ws₁ : List Record × (Unit {0} × (Unit {0} × Unit {0}))). ‵ (lasts deliver-at.ended (κ₀, tt) (x₀, (h .own, (h, tt))) ws₁) ⊛ raw (fact 𝓤 (Delivered h o (ws₁ .0))))) (id⊢ 𝓤 _) $ pick ! (λ ws₁.
         split ! $ move ! (1 ∷ []) $ heard ! (Delivered h o (ws₁ .0)) (λ g₁. fsplit ! $ fsplit ! $ move ! (1 ∷ []) $ feqL ! (λ k₁.
-        move ! (2 ∷ []) $ split ! $ move ! (1 ∷ []) $ peeks ! Q.the-row (Is Q.the-row) (shows 𝓤 H A Q.the-row) o (w₁ ∷ []) (λ is₁. land ! (from ! (stop !)) (init ! 20 refl (departure-typed o w₁ is₁)) $
-        rewrite ! 20 (λ (u : Val). ‵ (fat fullShare Q′.mir l₆ 0 u)) (ap only (LL.tells Q.the-type Q′.the-laws o _ is₁)) refl $ drop ! $
-        -- [the row's token; its last value; …; store; its token; the list's token; …; _13; …]: the store is passed on
-        assigns ! (addr ! (from ! (fld ! refl (hop ! (look-in ! 27 (sub ! 0 refl (whole !))) (stop !))))) (from ! (stop !)) (init ! 9 refl (tt, tt)) $
-        assigns ! (agg ! (and-then ! (load ! (from ! (stop !)) (look ! 9 refl)) (and-then ! (load ! (from ! (fld ! refl (stop !))) (look-in ! 27 (sub ! 1 refl (whole !)))) (no-more !)))) (from ! (stop !)) (init ! 7 refl (tt, (tt, (record { fits = room₁ .0 }, tt)))) $
-        move ! (4 ∷ 3 ∷ []) $ use2 W (raw (Put 𝓤 H A at-mem run .pre (to-put (ws .0) o))) (goes-put (ws .0) o (subst (Is Q.the-row o) (LL.tells Q.the-type Q′.the-laws o _ is₁) is₁) (k ∙ full)) $
-        calls-at ! fm (Put 𝓤 H A at-mem run) known-put (to-put (ws .0) o) (and-then ! (load ! (from ! (stop !)) (look ! 6 refl)) (and-then ! (load ! (from ! (stop !)) (look ! 18 refl)) (and-then ! (load ! (from ! (stop !)) (look ! 22 refl)) (no-more !)))) (λ w₂.
-        use1 W (later (some (λ (r : Turn). ((‵ (flft κ₁ q₁) ⊛ ‵ ftrue) ⊛ ‵ (N.the-row .own r (w₂ ∷ []))) ⊛ raw (ensured 𝓤 H A put.ended (put.clauses 𝓤 H A at-mem run) (κ₁, tt) (st (x₁ .name) (ws .0), (o, (c, tt))) tt r)))) (id⊢ 𝓤 _) $ await ! tt $ pick ! (λ r.
-        split ! $ move ! (1 ∷ []) $ use1 W (some (λ (ws₂ : List ℕ × (Unit {0} × (Unit {0} × Unit {0}))). ‵ (lasts put.ended (κ₁, tt) (st (x₁ .name) (ws .0), (o, (c, tt))) ws₂) ⊛ raw (fact 𝓤 (Put′ (ws .0) o r (ws₂ .0))))) (id⊢ 𝓤 _) $ pick ! (λ ws₂.
-        split ! $ move ! (1 ∷ []) $ heard ! (Put′ (ws .0) o r (ws₂ .0)) (λ g₂. fsplit ! $ fsplit ! $ move ! (1 ∷ []) $ feqL ! (λ k₂.
+        move ! (2 ∷ []) $ split ! $ move ! (1 ∷ []) $ peeks ! Q.the-row (Is Q.the-row) (shows 𝓤 H A Q.the-row) o (w₁ ∷ []) (λ is₁. land ! (from ! (stop !)) (init ! 21 refl (departure-typed o w₁ is₁)) $
+        rewrite ! 21 (λ (u : Val). ‵ (fat fullShare Q′.mir l₆ 0 u)) (ap only (LL.tells Q.the-type Q′.the-laws o _ is₁)) refl $ drop ! $
+        -- [the row's token; its last value; …; store; its token; the list's token; …; list; _13; …]: the store is passed on
+        assigns ! (addr ! (from ! (fld ! refl (hop ! (look-in ! 28 (sub ! 0 refl (whole !))) (stop !))))) (from ! (stop !)) (init ! 10 refl (tt, tt)) $
+        assigns ! (agg ! (and-then ! (load ! (from ! (stop !)) (look ! 10 refl)) (and-then ! (load ! (from ! (fld ! refl (stop !))) (look-in ! 28 (sub ! 1 refl (whole !)))) (no-more !)))) (from ! (stop !)) (init ! 8 refl (tt, (tt, (record { fits = room₁ .0 }, tt)))) $
+        move ! (5 ∷ []) $ split ! $ move ! (6 ∷ 0 ∷ 5 ∷ 8 ∷ []) $ join ! $
+        use3 W (raw (GoOn 𝓤 H A at-mem run .pre (to-go-on (ws .0) o))) (goes-on (ws .0) o (subst (Is Q.the-row o) (LL.tells Q.the-type Q′.the-laws o _ is₁) is₁) (k ∙ full)) $
+        calls-at ! fm (GoOn 𝓤 H A at-mem run) known-go-on (to-go-on (ws .0) o) (and-then ! (load ! (from ! (stop !)) (look ! 6 refl)) (and-then ! (load ! (from ! (stop !)) (look ! 24 refl)) (and-then ! (load ! (from ! (stop !)) (look ! 18 refl)) (and-then ! (load ! (from ! (stop !)) (look ! 22 refl)) (no-more !))))) (λ w₂.
+        use1 W (later (some (λ (r : Turn). ((‵ (flft κ₁ q₁) ⊛ (‵ (flft κ₂ q₂) ⊛ ‵ ftrue)) ⊛ ‵ (N.the-row .own r (w₂ ∷ []))) ⊛ raw (ensured 𝓤 H A go-on.ended (go-on.clauses 𝓤 H A at-mem run) (κ₁, (κ₂, tt)) (st (x₁ .name) (ws .0), (x₂, (o, (c, tt)))) tt r)))) (id⊢ 𝓤 _) $ await ! tt $ pick ! (λ r.
+        split ! $ move ! (1 ∷ []) $ use1 W (some (λ (ws₂ : List ℕ × (Unit {0} × (Unit {0} × (Unit {0} × Unit {0})))). ‵ (lasts go-on.ended (κ₁, (κ₂, tt)) (st (x₁ .name) (ws .0), (x₂, (o, (c, tt)))) ws₂) ⊛ raw (fact 𝓤 (WentOn (ws .0) o r (ws₂ .0))))) (id⊢ 𝓤 _) $ pick ! (λ ws₂.
+        split ! $ move ! (1 ∷ []) $ heard ! (WentOn (ws .0) o r (ws₂ .0)) (λ g₂. fsplit ! $ fsplit ! $ move ! (1 ∷ []) $ feqL ! (λ k₂.
         move ! (2 ∷ []) $ split ! $ move ! (1 ∷ []) $ peeks ! N.the-row (Is N.the-row) (shows 𝓤 H A N.the-row) r (w₂ ∷ []) (λ is₂. land ! (from ! (stop !)) (init ! 33 refl (turn-typed r w₂ is₂)) $
-        -- [the result; the store's token; its last value; …; the row's token; its last value; …; the list's token; …; _13; …]
+        -- [the result; the store's token and the list's; the store's last value; …; true; the row's token; its last value; …; _13; …]
         returns ! (look ! 33 refl) $ forget ! 9 refl $ forget ! 11 refl $ forget ! 13 refl $ forget ! 15 refl $ forget ! 17 refl $ forget ! 19 refl $ forget ! 21 refl $ forget ! 23 refl $ forget ! 25 refl $ forget ! 27 refl $ forget ! 29 refl $ forget ! 31 refl $ forget ! 33 refl $
         move ! (33 ∷ 34 ∷ []) $ free1 ! $ move ! (31 ∷ 32 ∷ []) $ free1 ! $ move ! (29 ∷ 30 ∷ []) $ free1 ! $ move ! (27 ∷ 28 ∷ []) $ free1 ! $ move ! (25 ∷ 26 ∷ []) $ free1 ! $ move ! (23 ∷ 24 ∷ []) $ free1 ! $
         move ! (21 ∷ 22 ∷ []) $ free1 ! $ move ! (19 ∷ 20 ∷ []) $ free1 ! $ move ! (17 ∷ 18 ∷ []) $ free1 ! $ move ! (15 ∷ 16 ∷ []) $ free1 ! $ move ! (13 ∷ 14 ∷ []) $ free1 ! $ move ! (11 ∷ 12 ∷ []) $ free1 ! $ move ! (9 ∷ 10 ∷ []) $ free1 ! $ free0 ! $
-        keep ! (5 ∷ 2 ∷ 4 ∷ 1 ∷ 7 ∷ 0 ∷ []) $ by ! (exits w₂ r (ws₁ .0) (ws₂ .0) k₁ (k₂ ∙ k) (turn-is ls rs (ws₁ .0) ss (ws .0) (ws₂ .0) c r h o (g .0) (g .1 .0) (g₁ .0) (g₁ .1) (g₂ .0) (g₂ .1))))))))))))))))))))))))))))))))))))
+        move ! (1 ∷ []) $ split ! $ move ! (0 ∷ 5 ∷ []) $ join ! $ keep ! (6 ∷ 3 ∷ 5 ∷ 0 ∷ 1 ∷ 2 ∷ []) $ by ! (exits w₂ r (ws₁ .0) (ws₂ .0) k₁ (k₂ ∙ k) (on-is ls rs (ws₁ .0) ss (ws .0) (ws₂ .0) c r h o (g .0) (g .1 .0) (g₁ .0) (g₁ .1) g₂)))))))))))))))))))))))))))))))))))
 
 module _ {M : Type 1} (𝓤 : URA M) (H : Heap 𝓤) (A : Atoms 𝓤) (W : Given 𝓤 H A) (at-mem : Memory → SProp 𝓤) (run : Routine → Fun 𝓤) where
-  one-walks : (C : Calls 𝓤 H) (Λ : Loops 𝓤 H) → FmC 𝓤 H (W .laws) C → Triple 𝓤 (C #turns·take) (Take 𝓤 H A at-mem run) → Triple 𝓤 (C #boxes·deliver-at) (Deliver 𝓤 H A at-mem run) → Triple 𝓤 (C #turns·put) (Put 𝓤 H A at-mem run)
+  one-walks : (C : Calls 𝓤 H) (Λ : Loops 𝓤 H) → FmC 𝓤 H (W .laws) C → Triple 𝓤 (C #turns·take) (Take 𝓤 H A at-mem run) → Triple 𝓤 (C #boxes·deliver-at) (Deliver 𝓤 H A at-mem run) → Triple 𝓤 (C #turns·go-on) (GoOn 𝓤 H A at-mem run)
       → Walks 𝓤 H A one.ended stayed (WpFn 𝓤 H C Λ code.function) (one.clauses 𝓤 H A at-mem run)
-  one-walks C Λ fm known-take known-deliver known-put = walked 𝓤 H A one.ended stayed (one.clauses 𝓤 H A at-mem run) (WpFn 𝓤 H C Λ code.function)
+  one-walks C Λ fm known-take known-deliver known-go-on = walked 𝓤 H A one.ended stayed (one.clauses 𝓤 H A at-mem run) (WpFn 𝓤 H C Λ code.function)
       (λ κs. (slice-vals, (slice-vals, (slice-vals, (LL.vals N.the-type N′.the-laws, tt)))))
       (λ κs. (mut-slice-tells (named 0) (κs .0) R, (mut-slice-tells (named 1) (κs .1 .0) u32, (shr-slice-tells (named 2) (κs .1 .1 .0) u8, (LL.tells N.the-type N′.the-laws, tt)))))
       (λ κs qs bounds a _ are. needs 𝓤 ((length (a .0 .now) ≡ 16) × ((length (a .1 .0 .now) ≡ 9216) × ((1 ≤ a .1 .1 .1 .0 .left) × (a .1 .1 .1 .0 .pairs * 2 ≤ length (a .1 .1 .0 .now))))) _ (λ ok.
       walk 𝓤 H A W at-mem run (κs .0) (κs .1 .0) (κs .1 .1 .0) (qs .0) (qs .1 .0) (qs .1 .1 .0) (a .0) (a .1 .0) (a .1 .1 .0) (a .1 .1 .1 .0) (are .1 .1 .1 .0) (ok .0) (ok .1 .0) (ok .1 .1 .0) (ok .1 .1 .1)
-      C Λ fm known-take known-deliver known-put (are .0 .0 .1) (are .1 .0 .0 .1) (are .1 .1 .0 .0 .1)))
+      C Λ fm known-take known-deliver known-go-on (are .0 .0 .1) (are .1 .0 .0 .1) (are .1 .1 .0 .0 .1)))
 
 one-meets : {M : Type 1} (𝓤 : URA M) (H : Heap 𝓤) (A : Atoms 𝓤) → Given 𝓤 H A → (at-mem : Memory → SProp 𝓤) (run : Routine → Fun 𝓤) (𝓣 : Tables 𝓤 H)
-    → Triple 𝓤 (𝓣 .C #turns·take) (Take 𝓤 H A at-mem run) → Triple 𝓤 (𝓣 .C #boxes·deliver-at) (Deliver 𝓤 H A at-mem run) → Triple 𝓤 (𝓣 .C #turns·put) (Put 𝓤 H A at-mem run)
+    → Triple 𝓤 (𝓣 .C #turns·take) (Take 𝓤 H A at-mem run) → Triple 𝓤 (𝓣 .C #boxes·deliver-at) (Deliver 𝓤 H A at-mem run) → Triple 𝓤 (𝓣 .C #turns·go-on) (GoOn 𝓤 H A at-mem run)
     → Meets 𝓤 H A one.signature (WpFn 𝓤 H (𝓣 .C) (𝓣 .Λ) code.function) (one.spec 𝓤 H A at-mem run)
-one-meets 𝓤 H A W at-mem run 𝓣 known-take known-deliver known-put =
+one-meets 𝓤 H A W at-mem run 𝓣 known-take known-deliver known-go-on =
     walk-meets 𝓤 H A one.ended stayed W
     (goes-gave-slice 𝓤 H A W 3 0 tt (plain (λ _. R)), (goes-gave-slice 𝓤 H A W 3 1 tt (plain (λ _. u32)), (goes-dropped 𝓤 H A W 3 (shrSliceOf (2 ∷ []) tt (plain (λ _. u8))) yes (λ κs x f. refl), (goes-dropped 𝓤 H A W 3 (plain (λ _. N.the-row)) yes (λ κs x f. refl), tt))))
     (one.clauses 𝓤 H A at-mem run)
-    (WpFn 𝓤 H (𝓣 .C) (𝓣 .Λ) code.function) (WpFn-mono 𝓤 H (W .laws) 𝓣 code.function) (one-walks 𝓤 H A W at-mem run (𝓣 .C) (𝓣 .Λ) (fmOf 𝓤 H (W .laws) 𝓣) known-take known-deliver known-put)
+    (WpFn 𝓤 H (𝓣 .C) (𝓣 .Λ) code.function) (WpFn-mono 𝓤 H (W .laws) 𝓣 code.function) (one-walks 𝓤 H A W at-mem run (𝓣 .C) (𝓣 .Λ) (fmOf 𝓤 H (W .laws) 𝓣) known-take known-deliver known-go-on)
 
 pub one-turn-spec : {M : Type 1} → stated.statement M
 unfolding code.routine tablesOf
@@ -283,4 +290,4 @@ one-turn-spec 𝓤 H 𝓜 𝓖 𝓡 =
     (one-meets 𝓤 H (𝓖 .A) (givenOf 𝓤 H 𝓜 𝓖) (𝓜 .mem) (𝓡 .run) (tablesOf 𝓤 H 𝓜 (tables 𝓤 H 𝓜 𝓡 code.env))
     (cited 𝓤 H (Take 𝓤 H (𝓖 .A) (𝓜 .mem) (𝓡 .run)) 𝓜 𝓡 code.env #turns·take take-def.routine code.calls-turns·take (take-thm.met 𝓤 H 𝓜 𝓖 𝓡))
     (cited 𝓤 H (Deliver 𝓤 H (𝓖 .A) (𝓜 .mem) (𝓡 .run)) 𝓜 𝓡 code.env #boxes·deliver-at deliver-at-def.routine code.calls-boxes·deliver-at (deliver-at-thm.met 𝓤 H 𝓜 𝓖 𝓡))
-    (cited 𝓤 H (Put 𝓤 H (𝓖 .A) (𝓜 .mem) (𝓡 .run)) 𝓜 𝓡 code.env #turns·put put-def.routine code.calls-turns·put (put-thm.met 𝓤 H 𝓜 𝓖 𝓡)))
+    (cited 𝓤 H (GoOn 𝓤 H (𝓖 .A) (𝓜 .mem) (𝓡 .run)) 𝓜 𝓡 code.env #turns·go-on go-on-def.routine code.calls-turns·go-on (go-on-thm.met 𝓤 H 𝓜 𝓖 𝓡)))

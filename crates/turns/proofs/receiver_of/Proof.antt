@@ -7,18 +7,6 @@ use Rattle.turns.proofs.receiver_of.Tie as tie
 is-in-requires : tie.Need-is-in-requires
 is-in-requires c κs = search needs
 
-mul-t6 : tie.Need-mul-t6
-mul-t6 c = search needs
-
-element-copy-out-t5 : tie.Need-element-copy-out-t5
-element-copy-out-t5 c = search needs
-
-mul-t9 : tie.Need-mul-t9
-mul-t9 c = search needs
-
-element-copy-out-t12 : tie.Need-element-copy-out-t12
-element-copy-out-t12 c = search needs
-
 is-in-requires-2 : tie.Need-is-in-requires-2
 is-in-requires-2 c κs = search needs
 
@@ -26,17 +14,7 @@ sleeps-requires : tie.Need-sleeps-requires
 sleeps-requires c κs = search needs
 
 returns : tie.Need-returns
-returns c = (receiver-is (c .before .before .before .before .before .args .t1) _ _ _ _ (c .before .is-in2 .ensures) (c .before .before .before .before .is-in .ensures) (c .sleeps .ensures), search needs)
+returns c = (receiver-is _ _ _ _ _ _ _ _ (c .before .is-in2 .ensures) (c .before .before .is-in .ensures) (c .sleeps .ensures), search needs)
 
 pub receiver-of-spec : {M : Type 1} → statement M
-receiver-of-spec =
-    tie.close
-    (tie.spec
-    is-in-requires
-    mul-t6
-    element-copy-out-t5
-    mul-t9
-    element-copy-out-t12
-    is-in-requires-2
-    sleeps-requires
-    returns)
+receiver-of-spec = tie.close (tie.spec is-in-requires is-in-requires-2 sleeps-requires returns)

@@ -51,9 +51,11 @@ use denote.Triple.Walked.{says, needs, Stays, stay-slice, stay-dropped, walkOf, 
 use denote.Exit.{yes}
 use Rattle.boxes.specs.declared.Record.{Record}
 use Rattle.turns.specs.declared.Turn.{Turn}
-use Rattle.turns.specs.Turn.{Going, turnDef, turnsDef}
+use Rattle.turns.specs.Turn.{Going, turnsDef}
 use Rattle.turns.specs.Parts.{going}
-use Rattle.turns.proofs.Laws.{turns-over, turns-on, turn-less, turn-pairs}
+use Rattle.turns.specs.Pass.{onDef}
+use Rattle.turns.proofs.Laws.{turns-over}
+use Rattle.turns.proofs.PassLaws.{turns-go-on, on-less, on-pairs}
 use Rattle.boxes.proofs.Record as T
 use Rattle.turns.proofs.Turn as N
 use Rattle.turns.proofs.Turn.Laws as N′
@@ -226,8 +228,8 @@ module _ {M : Type 1} (𝓤 : URA M) (H : Heap 𝓤) (A : Atoms 𝓤) (W : Given
   inv-in l t z f = via 𝓤 (guard 𝓤 (Facts t z) (Holding l z)) (guardI 𝓤 (Facts t z) (Holding l z) f) (exI 𝓤 (λ (y : State). guard 𝓤 (Facts t y) (Holding l y)) z)
 
   -- a turn stays in the list
-  listed : (z : State) (zs : List Record) (us : List ℕ) (c : Turn) → z .turn .pairs * 2 ≤ length ls → Done (turnDef ls z) zs us c → c .pairs * 2 ≤ length ls
-  listed z zs us c h d = subst (λ (j : ℕ). j * 2 ≤ length ls) (sym (turn-pairs ls z (going zs us c) d)) h
+  listed : (z : State) (zs : List Record) (us : List ℕ) (c : Turn) → z .turn .pairs * 2 ≤ length ls → Done (onDef ls z) zs us c → c .pairs * 2 ≤ length ls
+  listed z zs us c h d = subst (λ (j : ℕ). j * 2 ≤ length ls) (sym (on-pairs ls z (going zs us c) d)) h
 
   module _ (𝓣 : Tables 𝓤 H) (room₀ : Room R (length rs)) (room₁ : Room u32 (length ss)) (room₂ : Room u8 (length ls)) (known : Triple 𝓤 (𝓣 .C #turns·one-turn) (One 𝓤 H A at-mem run)) where
     abbrev C : Calls 𝓤 H
@@ -297,8 +299,8 @@ module _ {M : Type 1} (𝓤 : URA M) (H : Heap 𝓤) (A : Atoms 𝓤) (W : Given
           use1 W (later (some (λ (r : Turn). ((‵ (flft (ν ∷ []) fullShare) ⊛ (‵ (flft (ν′ ∷ []) fullShare) ⊛ (‵ (flft κ₂ q₂) ⊛ ‵ ftrue))) ⊛ ‵ (N.the-row .own r (w ∷ [])))
           ⊛ raw (ensured 𝓤 H A one.ended (one.clauses 𝓤 H A at-mem run) (ν ∷ [], (ν′ ∷ [], (κ₂, tt))) (given-to δ δ′ (z .row) (z .store) (z .turn)) tt r)))) (id⊢ 𝓤 _) $ await ! tt $ pick ! (λ r.
           split ! $ move ! (1 ∷ []) $ use1 W (some (λ (ws : List Record × (List ℕ × (Unit {0} × (Unit {0} × Unit {0})))). ‵ (lasts one.ended (ν ∷ [], (ν′ ∷ [], (κ₂, tt))) (given-to δ δ′ (z .row) (z .store) (z .turn)) ws)
-          ⊛ raw (fact 𝓤 (Done (turnDef ls z) (ws .0) (ws .1 .0) r)))) (id⊢ 𝓤 _) $ pick ! (λ ws.
-          split ! $ move ! (1 ∷ []) $ heard ! (Done (turnDef ls z) (ws .0) (ws .1 .0) r) (λ g. fsplit ! $ fsplit ! $ move ! (1 ∷ []) $ feqL ! (λ k₀.
+          ⊛ raw (fact 𝓤 (Done (onDef ls z) (ws .0) (ws .1 .0) r)))) (id⊢ 𝓤 _) $ pick ! (λ ws.
+          split ! $ move ! (1 ∷ []) $ heard ! (Done (onDef ls z) (ws .0) (ws .1 .0) r) (λ g. fsplit ! $ fsplit ! $ move ! (1 ∷ []) $ feqL ! (λ k₀.
           move ! (1 ∷ []) $ fsplit ! $ fsplit ! $ move ! (1 ∷ []) $ feqL ! (λ k₁.
           move ! (3 ∷ []) $ split ! $ move ! (1 ∷ []) $ peeks ! N.the-row (Is N.the-row) (shows 𝓤 H A N.the-row) r (w ∷ []) (λ is.
           -- [the result; the tokens; the store's last value; …; the row's; list; the store's lender's part; the row's; _5; …]: both come back before the result lands
@@ -309,10 +311,10 @@ module _ {M : Type 1} (𝓤 : URA M) (H : Heap 𝓤) (A : Atoms 𝓤) (W : Given
           forget ! 7 refl $ forget ! 8 refl $ forget ! 9 refl $ forget ! 10 refl $ forget ! 11 refl $
           move ! (2 ∷ 0 ∷ 6 ∷ []) $ join ! $ join ! $
           use1 W (At l₅ t) (inv-in l₅ t (going (ws .0) (ws .1 .0) r) (
-            turn-less t ls z (going (ws .0) (ws .1 .0) r) (f .0) g,
+            on-less t ls z (going (ws .0) (ws .1 .0) r) (f .0) g,
             (
               subst (Is N.the-row r) (LL.tells N.the-type N′.the-laws r _ is) is,
-              (k₀ ∙ f .1 .1 .0, (k₁ ∙ f .1 .1 .1 .0, (listed z (ws .0) (ws .1 .0) r (f .1 .1 .1 .1 .0) g, f .1 .1 .1 .1 .1 ∙ turns-on t ls z (going (ws .0) (ws .1 .0) r) (some-left (z .turn .left) k e) g))),
+              (k₀ ∙ f .1 .1 .0, (k₁ ∙ f .1 .1 .1 .0, (listed z (ws .0) (ws .1 .0) r (f .1 .1 .1 .1 .0) g, f .1 .1 .1 .1 .1 ∙ turns-go-on t ls z (going (ws .0) (ws .1 .0) r) (some-left (z .turn .left) k e) (f .0) g))),
             ),
           )) $
           move ! (1 ∷ []) $ split ! $

@@ -31,11 +31,11 @@ search-holds c = (refl, (search needs, λ k l. absurd (omega arith)))
 mul-to : tie.Need-mul-to Inv-loop μ-loop Inv-search μ-search
 mul-to c = search needs
 
-array-read-to : tie.Need-array-read-to Inv-loop μ-loop Inv-search μ-search
-array-read-to c = search needs
+element-copy-out-to : tie.Need-element-copy-out-to Inv-loop μ-loop Inv-search μ-search
+element-copy-out-to c = search needs
 
 loop-holds : tie.Need-loop-holds Inv-loop μ-loop Inv-search μ-search
-loop-holds c = (c .before .before .search .inv .0, (search needs, (search needs, (refl, (c .before .before .search .inv .1 .1, λ k l. absurd (omega arith))))))
+loop-holds c = (c .before .before .before .search .inv .0, (search needs, (search needs, (refl, (c .before .before .before .search .inv .1 .1, λ k l. absurd (omega arith))))))
 
 is-in-requires : tie.Need-is-in-requires Inv-loop μ-loop Inv-search μ-search
 is-in-requires c κs = search needs
@@ -60,8 +60,8 @@ search-less c = search needs
 search-again : tie.Need-search-again Inv-loop μ-loop Inv-search μ-search
 search-again c =
     ⊎-elim
-    (λ w. (w .3 ∙ w .1 .inv .0, (search needs, idle-more (c .before .before .before .args .t1) (c .before .before .search .a) (c .before .before .search .inv .1 .1) (λ b l. w .1 .inv .1 .1 .1 .1 .1 b (omega (arith, w .2 .left))))))
-    (λ w. (w .1 ∙ c .before .before .search .inv .0, (search needs, idle-more (c .before .before .before .args .t1) (c .before .before .search .a) (c .before .before .search .inv .1 .1) (idle-empty (word (c .before .before .before .args .t1) (c .before .before .search .a)) (w .0 .left)))))
+    (λ w. (w .3 ∙ w .1 .inv .0, (search needs, idle-more (c .before .before .before .before .args .busy .now) (c .before .before .before .search .a) (c .before .before .before .search .inv .1 .1) (λ b l. w .1 .inv .1 .1 .1 .1 .1 b (omega (arith, w .2 .left))))))
+    (λ w. (w .1 ∙ c .before .before .before .search .inv .0, (search needs, idle-more (c .before .before .before .before .args .busy .now) (c .before .before .before .search .a) (c .before .before .before .search .inv .1 .1) (idle-empty (word (c .before .before .before .before .args .busy .now) (c .before .before .before .search .a)) (w .0 .left)))))
     (c .if1 .came)
 
 returns : tie.Need-returns Inv-loop μ-loop Inv-search μ-search
@@ -71,7 +71,7 @@ returns c =
     (none ∙ search-none _ (rw e at (c .before .search .inv .1 .1)), (omega (arith, ap (λ (q : Pair). q .«from») none), omega (arith, ap (λ (q : Pair). q .to) none)))
 
 returns-2 : tie.Need-returns-2 Inv-loop μ-loop Inv-search μ-search
-returns-2 c = (search-found _ _ _ (search needs) (search needs) (c .before .before .before .before .before .before .search .inv .1 .1) (c .before .before .before .loop .inv .1 .1 .1 .1 .1) (sym (c .before .is-in .ensures) ∙ c .if2 .taken), (search needs, search needs))
+returns-2 c = (search-found _ _ _ (search needs) (search needs) (c .before .before .before .before .before .before .before .search .inv .1 .1) (c .before .before .before .loop .inv .1 .1 .1 .1 .1) (sym (c .before .is-in .ensures) ∙ c .if2 .taken), (search needs, search needs))
 
 pub search-spec : {M : Type 1} → statement M
 search-spec =
@@ -83,7 +83,7 @@ search-spec =
     μ-search
     search-holds
     mul-to
-    array-read-to
+    element-copy-out-to
     loop-holds
     is-in-requires
     add-b
