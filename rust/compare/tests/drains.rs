@@ -33,11 +33,12 @@ impl Tried {
     }
 }
 
-/// The messages that the drain of a start set takes to its end, by the sheet
-/// alone.
-fn exact(sheet: &[u8], starts: u16) -> u32 {
+/// The messages that the drain of a start set takes to its end, and the budget
+/// that finishes whatever is started, E(N+2) + N(N-1): by the sheet alone.
+fn exact_and_enough(sheet: &[u8], starts: u16) -> (u32, u32) {
     let sheet = independent::parse(sheet).expect("an accepted sheet");
-    Rest::new(&sheet).sent(starts)
+    let rest = Rest::new(&sheet);
+    (rest.sent(starts), rest.budget())
 }
 
 /// Every sheet of N boxes.
@@ -53,7 +54,7 @@ fn every_sheet(boxes: u8) -> impl Iterator<Item = Vec<u8>> {
 }
 
 /// Every start set of every sheet of up to four boxes, with every budget from
-/// 0 to one more than it takes, and the largest.
+/// 0 to one more than it takes, the two that always finish, and the largest.
 #[test]
 fn every_start_set() {
     let mut tried = Tried::new();
@@ -61,8 +62,9 @@ fn every_start_set() {
         let words = BLOCK_WORDS * usize::from(boxes);
         for sheet in every_sheet(boxes) {
             for starts in 0..1 << boxes {
-                let exact = exact(&sheet, starts);
-                for budget in (0..=exact + 1).chain([BUDGET, u32::MAX]) {
+                let (exact, enough) = exact_and_enough(&sheet, starts);
+                assert!(exact <= enough && enough <= BUDGET);
+                for budget in (0..=exact + 1).chain([enough, BUDGET, u32::MAX]) {
                     let (_, moved, _, finished) = tried
                         .drain(&sheet, starts, budget, words)
                         .expect("a hub to drain");
@@ -94,7 +96,8 @@ fn every_word_of_starts() {
     tried.draining.print("every word of starts");
 }
 
-/// Larger hubs, with budgets of 0, 1, between, one short of exact, exact, more.
+/// Larger hubs, with budgets of 0, 1, between, one short of exact, exact, more,
+/// and those that always finish.
 #[test]
 fn by_chance() {
     let mut tried = Tried::new();
@@ -108,15 +111,17 @@ fn by_chance() {
             1 => 1 << tried.chance.below(hub.boxes.into()),
             _ => tried.chance.word() & below_n,
         };
-        let exact = exact(&sheet, starts);
-        let budget = match tried.chance.below(10) {
+        let (exact, enough) = exact_and_enough(&sheet, starts);
+        assert!(exact <= enough && enough <= BUDGET);
+        let budget = match tried.chance.below(11) {
             0 => 0,
             1 => 1,
             2 => exact.saturating_sub(1),
             3 => exact,
             4 => exact + 1,
-            5 => BUDGET,
-            6 => u32::MAX,
+            5 => enough,
+            6 => BUDGET,
+            7 => u32::MAX,
             _ => tried.chance.below(exact as usize + 1) as u32,
         };
         let words = hub.words(&mut tried.chance);

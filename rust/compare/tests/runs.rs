@@ -2,7 +2,7 @@
 //! sheets that are refused.
 
 use compare::{Chance, Hub, Lent, Tally, after_others, calls, damage, lists};
-use derowlas::{BLOCK_WORDS, BOARD_WORDS, LIST_BYTES};
+use derowlas::{BLOCK_WORDS, BOARD_WORDS, BUDGET, LIST_BYTES};
 
 /// Runs a list on a board of so many words.
 struct Tried {
@@ -50,6 +50,31 @@ fn to_the_end_and_not() {
     // Most boards have room, and most lists that are cut leave something.
     assert!(whole > 40_000, "{whole} runs to the end");
     assert!(stopped > 30_000, "{stopped} runs that stopped before");
+}
+
+/// A list's order and the drain's, with the same boxes started: one answer and
+/// one board, of the proved library alone.
+#[test]
+fn order_leaves_no_trace() {
+    let mut chance = Chance::new();
+    for _ in 0..20_000 {
+        let hub = Hub::shaped(&mut chance);
+        let sheet = hub.sheet();
+        let list = lists::to_the_end(&sheet, &mut chance);
+        let starts = list.chunks_exact(2).filter(|pair| pair[0] == pair[1]);
+        let starts = starts.fold(0, |set, pair| set | 1 << pair[0]);
+        let words = BLOCK_WORDS * usize::from(hub.boxes);
+        let mut boards = [vec![1; words], vec![2; words]];
+        let ran = derowlas::run(&sheet, &list, &mut boards[0]).expect("a run");
+        let drained = derowlas::drain(&sheet, starts, BUDGET, &mut boards[1]).expect("a drain");
+        assert!(drained.finished);
+        assert_eq!(
+            (ran.sent, ran.moved, ran.under_way),
+            (drained.sent, drained.moved, drained.under_way),
+            "{list:?} on {sheet:?}"
+        );
+        assert_eq!(boards[0], boards[1], "{list:?} on {sheet:?}");
+    }
 }
 
 /// Every beginning of some lists, so that every moment of a run is seen.

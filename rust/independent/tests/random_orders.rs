@@ -229,6 +229,44 @@ fn check_sheets(seed: u64, sheets: usize) {
     assert!(deliveries > 1_000 * sheets as u64, "{deliveries}");
 }
 
+/// A set of boxes, one of the group of each box that is given.
+fn others_of(starts: u16, expected: &Expected, numbers: &mut Numbers) -> u16 {
+    ones(starts).fold(0, |set, b| {
+        let group: Vec<usize> = ones(expected.groups[b]).collect();
+        set | 1 << group[numbers.below(group.len())]
+    })
+}
+
+/// Two start sets of the same groups, each in every order, and two drains: all
+/// leave the same counts and the same board.  Nothing is said here of what they
+/// should be.
+#[test]
+fn orders_leave_one_board() {
+    let mut numbers = Numbers(0x9216);
+    for number in 0..270 {
+        let boxes = 1 + numbers.below(16);
+        let bytes = random_sheet(&mut numbers, boxes, number % 9);
+        let expected = Expected::new(&bytes);
+        let starts = random_starts(&mut numbers, boxes);
+        let others = others_of(starts, &expected, &mut numbers);
+        let mut ends = Vec::new();
+        for starts in [starts, others] {
+            let mut board = vec![0xa5a5; boxes * BLOCK + 1];
+            let drained = drain(&bytes, starts, 4_560, &mut board).unwrap();
+            ends.push((drained.counts, board));
+            for order in orders(&mut numbers, &expected) {
+                let at_once = numbers.chance(50);
+                let mut hub = watched(&expected);
+                let list = to_rest(&mut hub, starts, at_once, order, &mut numbers);
+                let mut board = vec![0xa5a5; boxes * BLOCK + 1];
+                let counts = run(&bytes, &list, &mut board).unwrap();
+                ends.push((counts, board));
+            }
+        }
+        assert!(ends.iter().all(|end| *end == ends[0]), "{bytes:?}");
+    }
+}
+
 // In two parts, which run side by side where there are two cores.
 
 #[test]
