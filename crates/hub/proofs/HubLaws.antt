@@ -20,9 +20,9 @@ use Rattle.order.specs.Drain.{drained}
 use Rattle.order.specs.Sums.{sum-flat}
 use Rattle.order.specs.Sent.{sent-low}
 use Rattle.boxes.specs.Record.{boxOf, blank}
-use Rattle.turns.specs.declared.Turn.{Turn}
+use Rattle.turn.specs.declared.Turn.{Turn}
 use Rattle.turns.specs.declared.Ran.{Ran as Own}
-use Rattle.turns.specs.Turn.{Going, ownDef}
+use Rattle.turns.specs.Turns.{Going, ownDef}
 use Rattle.turns.specs.Parts.{ranOf}
 use Rattle.shows.specs.Shows.{Shows}
 use Rattle.shows.specs.Runs.{own-shows}

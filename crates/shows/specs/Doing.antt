@@ -26,7 +26,8 @@ use Rattle.boxes.specs.Step.{stepDef, woken, taken, saved, isStopped, originsOf
 use Rattle.boxes.specs.Tables.{forEach-none}
 use Rattle.boxes.specs.Laws.{woken-yes, woken-no, round-record, still-record, started-own, started-stops, start-sends, box-sends}
 use Rattle.mail.specs.Gather.{wireOf, clearTo}
-use Rattle.turns.specs.Turn.{Going, ends, letter}
+use Rattle.turn.specs.Turn.{ends, letter}
+use Rattle.turns.specs.Turns.{Going}
 use Rattle.shows.specs.Held.{Held}
 use Rattle.shows.specs.Posts.{letterList}
 use Rattle.shows.specs.Shows.{Shows, Does, some}

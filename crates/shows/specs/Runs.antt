@@ -31,9 +31,10 @@ use Rattle.boxes.specs.declared.Departure.{Departure}
 use Rattle.boxes.specs.Record.{boxOf, recordOf, blank, box-record}
 use Rattle.boxes.specs.Step.{stepDef}
 use Rattle.mail.specs.Gather.{wireOf}
-use Rattle.turns.specs.declared.Turn.{Turn}
-use Rattle.turns.specs.declared.Pair.{Pair}
-use Rattle.turns.specs.Turn.{Going, Took, searched, nextPair, quiet, oneList, roundOf, tookRound, tookFirst, delivered, begun, tookPair, tookDef, heardAt, nextTurn, putDef, turnDef, turnsDef, firstTurn, asleepRow, ownDef}
+use Rattle.turn.specs.declared.Turn.{Turn}
+use Rattle.turn.specs.declared.Pair.{Pair}
+use Rattle.turn.specs.Turn.{Took, searched, nextPair, quiet, oneList, roundOf, tookRound, tookFirst, delivered, begun, tookPair, tookDef, heardAt, nextTurn, putDef}
+use Rattle.turns.specs.Turns.{Going, turnDef, turnsDef, firstTurn, asleepRow, ownDef}
 use Rattle.shows.specs.Held.{length-words}
 use Rattle.shows.specs.Shows.{Shows, some}
 use Rattle.shows.specs.Steps.{passes}

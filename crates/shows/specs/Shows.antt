@@ -27,8 +27,9 @@ use Rattle.boxes.specs.Record.{boxOf, recordOf, blank, box-record}
 use Rattle.mail.specs.Letter.{postLink}
 use Rattle.mail.specs.Post.{Posted}
 use Rattle.mail.specs.Gather.{wireOf, clearTo}
-use Rattle.turns.specs.declared.Turn.{Turn}
-use Rattle.turns.specs.Turn.{Going, Put, letter, postTo, lessBusy, moreBusy, ends, nextTurn, putDef}
+use Rattle.turn.specs.declared.Turn.{Turn}
+use Rattle.turn.specs.Turn.{Put, letter, postTo, lessBusy, moreBusy, ends, nextTurn, putDef}
+use Rattle.turns.specs.Turns.{Going}
 use Rattle.shows.specs.Held.{heldOf, Held, held-same}
 use Rattle.shows.specs.Lists.{or-true, or-false}
 use Rattle.shows.specs.Posts.{Sends, letterList}

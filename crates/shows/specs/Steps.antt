@@ -15,7 +15,7 @@ use Rattle.boxes.specs.declared.Departure.{Departure}
 use Rattle.boxes.specs.Record.{boxOf, recordOf}
 use Rattle.boxes.specs.Step.{stepDef, woken, taken, saved, settled, rounded, isStopped, hopped, noSets}
 use Rattle.boxes.specs.Laws.{woken-yes, woken-no, step-round, step-still, round-sends, round-record, round-stops, still-record, still-stops, started-own, start-sends, said}
-use Rattle.turns.specs.Turn.{letter, ends}
+use Rattle.turn.specs.Turn.{letter, ends}
 use Rattle.shows.specs.Posts.{letterList, setIf, listsFor}
 
 -- ---- what the departure has of the arrival

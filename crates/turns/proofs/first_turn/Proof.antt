@@ -1,7 +1,7 @@
 -- `turns::first_turn` meets its contract. Assumes nothing.
 use borrow.Author.Needs.{needs}
 use mathlib.Core.Path.{refl}
-use Rattle.turns.specs.Turn.{firstTurn}
+use Rattle.turns.specs.Turns.{firstTurn}
 use Rattle.turns.proofs.first_turn.Statement.{statement}
 use Rattle.turns.proofs.first_turn.Tie as tie
 

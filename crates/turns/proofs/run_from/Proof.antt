@@ -51,15 +51,15 @@ use denote.Triple.Walked.{says, needs, Stays, stay-dropped, walkOf, goes-dropped
 use denote.Exit.{yes}
 use Rattle.boxes.specs.declared.Record.{Record}
 use Rattle.wires.specs.Wires.{sixteen, none, Empty}
-use Rattle.turns.specs.declared.Turn.{Turn}
+use Rattle.turn.specs.declared.Turn.{Turn}
 use Rattle.turns.specs.declared.Ran.{Ran}
-use Rattle.turns.specs.Turn.{Going, asleepRow, turnsDef}
+use Rattle.turns.specs.Turns.{Going, asleepRow, turnsDef}
 use Rattle.turns.specs.Parts.{going, ran, ranOf}
 use Rattle.turns.proofs.Laws.{ran-is}
 use Rattle.boxes.proofs.Record as T
 use Rattle.boxes.proofs.Record.Laws as T′
-use Rattle.turns.proofs.Turn as N
-use Rattle.turns.proofs.Turn.Laws as N′
+use Rattle.turn.proofs.Turn as N
+use Rattle.turn.proofs.Turn.Laws as N′
 use Rattle.turns.proofs.Ran as Z
 use Rattle.turns.proofs.Ran.Laws as Z′
 use Rattle.turns.proofs.sleeping_row as sleeping-row

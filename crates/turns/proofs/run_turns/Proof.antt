@@ -50,15 +50,14 @@ use denote.Triple.Table.{entered, cited}
 use denote.Triple.Walked.{says, needs, Stays, stay-slice, stay-dropped, walkOf, goes-dropped, goes-slice, Walks, ends-at, walked, walk-meets}
 use denote.Exit.{yes}
 use Rattle.boxes.specs.declared.Record.{Record}
-use Rattle.turns.specs.declared.Turn.{Turn}
-use Rattle.turns.specs.Turn.{Going, turnsDef}
-use Rattle.turns.specs.Parts.{going}
-use Rattle.turns.specs.Pass.{onDef}
+use Rattle.turn.specs.declared.Turn.{Turn}
+use Rattle.turns.specs.Turns.{Going, turnsDef}
+use Rattle.turns.specs.Parts.{going, onDef}
 use Rattle.turns.proofs.Laws.{turns-over}
 use Rattle.turns.proofs.PassLaws.{turns-go-on, on-less, on-pairs}
 use Rattle.boxes.proofs.Record as T
-use Rattle.turns.proofs.Turn as N
-use Rattle.turns.proofs.Turn.Laws as N′
+use Rattle.turn.proofs.Turn as N
+use Rattle.turn.proofs.Turn.Laws as N′
 use Rattle.turns.proofs.one_turn as one
 use Rattle.turns.proofs.one_turn.Symbol as one-def
 use Rattle.turns.proofs.one_turn.Symbol.{name as #turns·one-turn}

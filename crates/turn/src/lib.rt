@@ -1,0 +1,545 @@
+// One turn of a run, but for the box's own step: the next pair, what it brings, what goes out; and the turns that touch no record. Document 01, "Lists and the drain".
+ghost use mathlib.Core.Path.{_≡_};
+ghost use Prim.Native.Nat.{ℕ, _+_, _*_, _/_, _%_, _^_, _<_, _≤_};
+ghost use mathlib.Core.Bool.{not, _&&_, _||_, cond};
+ghost use lib.Bits.{bitOr};
+ghost use lib.ListN.{length};
+ghost use Rattle.rules.specs.Sets.{mem, without};
+ghost use Rattle.mail.specs.Gather.{clearTo, wireOf};
+ghost use Rattle.mail.specs.Letter.{posted, postLink};
+ghost use Rattle.turn.specs.Turn.{searched, pairOf, tookPair, tookDef, postTo, putDef};
+ghost use Rattle.turn.specs.Parts.{took, receiverFrom, quietTo, oneListTo, roundTo, firstTo, deliveredTo, lessOf, leftAfter, atAfter, movedAfter};
+ghost use Rattle.turn.specs.Pass.{seenAs, glanced, glanceFirst, glanceTo, glancePair, kept, passAll};
+use boxes::Arrival;
+use boxes::Departure;
+use mail::Counts;
+use mail::Letter;
+
+// The wire that is served next: a start where both ends are one box. some: there is one.
+pub struct Pair {
+    pub some: bool,
+    pub from: usize,
+    pub to: usize,
+}
+
+// What a run carries from turn to turn, by value.
+pub struct Turn {
+    // how many turns may still come; the next pair of the list, and how many pairs it has
+    pub left: usize,
+    pub at: usize,
+    pub pairs: usize,
+    // the counts, and whether a message found no room
+    pub sent: u32,
+    pub moved: u32,
+    pub full: bool,
+    // the boxes that are awake, and those that have stopped
+    pub awake: u16,
+    pub stopped: u16,
+    // by box: its link set; the links whose queue holds a message; the boxes to which it has messages under way
+    pub links: [u16; 16],
+    pub heard: [u16; 16],
+    pub busy: [u16; 16],
+}
+
+// ---- the next pair
+
+// "It searches senders ascending, then receivers, and leaves the search at the first wire that holds a message."
+fn search(busy: &[u16; 16]) -> Pair
+    ensures { λ r. ⌜ (r ≡ searched (now (busy .entry))) × ((r .«from» < 16) × (r .to < 16)) ⌝ }
+{
+    let mut p = Pair {
+        some: false,
+        from: 0,
+        to: 0,
+    };
+    'search: for a in 0..16 {
+        let to = busy[a];
+        if to != 0 {
+            for b in 0..16 {
+                if sets::is_in(to, b) {
+                    p = Pair {
+                        some: true,
+                        from: a,
+                        to: b,
+                    };
+                    break 'search;
+                }
+            }
+        }
+    }
+    p
+}
+
+// The pairs of the list, while it lasts; then the search.
+fn next_pair(list: &[u8], at: usize, pairs: usize, busy: &[u16; 16]) -> Pair
+    requires { ⌜ pairs * 2 ≤ length (now list) ⌝ }
+    ensures { λ r. ⌜ (r ≡ pairOf (now (list .entry)) at pairs (now (busy .entry))) × ((r .«from» < 16) × (r .to < 16)) ⌝ }
+{
+    if at < pairs {
+        let k = at * 2;
+        return Pair {
+            some: true,
+            from: (list[k] % 16) as usize,
+            to: (list[k + 1] % 16) as usize,
+        };
+    }
+    search(busy)
+}
+
+// ---- what it brings
+
+// What a turn has to know of the receiver: its number and link set, the links whose queue holds a message, whether it sleeps, whether it has stopped.
+pub struct Receiver {
+    pub own: usize,
+    pub links: u16,
+    pub heard: u16,
+    pub sleeps: bool,
+    pub stopped: bool,
+}
+
+fn sleeps(awake: bool, stopped: bool) -> bool
+    ensures { λ r. ⌜ r ≡ not awake && not stopped ⌝ }
+{
+    if awake {
+        return false;
+    }
+    !stopped
+}
+
+fn receiver_of(b: usize, links: u16, heard: u16, awake: u16, stopped: u16) -> Receiver
+    requires { ⌜ b < 16 ⌝ }
+    ensures { λ r. ⌜ (r ≡ receiverFrom b links heard awake stopped) × (r .own ≡ b) ⌝ }
+{
+    let ended = sets::is_in(stopped, b);
+    Receiver {
+        own: b,
+        links: links,
+        heard: heard,
+        sleeps: sleeps(sets::is_in(awake, b), ended),
+        stopped: ended,
+    }
+}
+
+// Nothing for the record but, maybe, that the box wakes.
+fn quiet(r: Receiver, a: usize, moved: bool, wakes: bool, heard: u16) -> Arrival
+    ensures { λ h. ⌜ h ≡ quietTo r a moved wakes heard ⌝ }
+{
+    let none: [u16; 16] = [0; 16];
+    Arrival {
+        own: r.own,
+        from: a,
+        links: r.links,
+        moved: moved,
+        wakes: wakes,
+        round: false,
+        heads: none,
+        listed: 0,
+        lists: none,
+        heard: heard,
+    }
+}
+
+// A list at the head of an empty queue is taken at once.
+fn one_list(r: Receiver, a: usize, x: u32) -> Arrival
+    ensures { λ h. ⌜ h ≡ oneListTo r a x ⌝ }
+{
+    let none: [u16; 16] = [0; 16];
+    let k = wires::origin(x);
+    let mut lists = none;
+    lists[k] = wires::set_of(x);
+    Arrival {
+        own: r.own,
+        from: a,
+        links: r.links,
+        moved: true,
+        wakes: r.sleeps,
+        round: false,
+        heads: none,
+        listed: sets::only(k),
+        lists: lists,
+        heard: r.heard,
+    }
+}
+
+// "All queues have a NOTSPT message at their heads: do a round."
+fn take_round(store: &mut [u32], r: Receiver, a: usize) -> Arrival
+    requires { ⌜ (length (now store) ≡ 9216) × (r .own < 16) ⌝ }
+    ensures { λ h. ⌜ took (now (store .exit)) h ≡ roundTo r a (now (store .entry)) ⌝ }
+{
+    let g = mail::gather(store, r.own, r.links);
+    let heads = g.heads;
+    let lists = g.lists;
+    Arrival {
+        own: r.own,
+        from: a,
+        links: r.links,
+        moved: true,
+        wakes: r.sleeps,
+        round: true,
+        heads: heads,
+        listed: g.listed,
+        lists: lists,
+        heard: g.heard,
+    }
+}
+
+// The word x has joined the queue of the wire from a, which was empty.
+fn take_first(store: &mut [u32], r: Receiver, a: usize, x: u32) -> Arrival
+    requires { ⌜ (length (now store) ≡ 9216) × ((a < 16) × (r .own < 16)) ⌝ }
+    ensures { λ h. ⌜ took (now (store .exit)) h ≡ firstTo r a x (now (store .entry)) ⌝ }
+{
+    if wires::is_list(x) {
+        wires::take(store, a * 16 + r.own);
+        return one_list(r, a, x);
+    }
+    let heard = r.heard | sets::only(a);
+    if heard == r.links {
+        return take_round(store, r, a);
+    }
+    quiet(r, a, true, r.sleeps, heard)
+}
+
+// "A delivery takes the oldest message off a wire."
+fn take_oldest(store: &mut [u32], r: Receiver, a: usize) -> Arrival
+    requires { ⌜ (length (now store) ≡ 9216) × ((a < 16) × (r .own < 16)) ⌝ }
+    ensures { λ h. ⌜ took (now (store .exit)) h ≡ deliveredTo r a (now (store .entry)) ⌝ }
+{
+    let i = a * 16 + r.own;
+    if wires::under_way(store, i) == 0 {
+        return quiet(r, a, false, false, r.heard);
+    }
+    if r.stopped {
+        wires::skip(store, i);
+        return quiet(r, a, true, false, r.heard);
+    }
+    if wires::queued(store, i) == 0 {
+        let x = wires::arrive(store, i);
+        return take_first(store, r, a, x);
+    }
+    wires::arrive(store, i);
+    quiet(r, a, true, false, r.heard)
+}
+
+// "a = b starts box a. Otherwise the oldest message on the wire from a to b is delivered."
+fn take_pair(store: &mut [u32], p: Pair, c: Turn) -> Arrival
+    requires { ⌜ (length (now store) ≡ 9216) × ((p .«from» < 16) × (p .to < 16)) ⌝ }
+    ensures { λ h. ⌜ took (now (store .exit)) h ≡ tookPair c p (now (store .entry)) ⌝ }
+{
+    if p.some {
+        let b = p.to;
+        let r = receiver_of(b, c.links[b], c.heard[b], c.awake, c.stopped);
+        if p.from == p.to {
+            return quiet(r, p.to, false, r.sleeps, r.heard);
+        }
+        return take_oldest(store, r, p.from);
+    }
+    let r = receiver_of(0, c.links[0], c.heard[0], c.awake, c.stopped);
+    quiet(r, 0, false, false, r.heard)
+}
+
+pub fn take(store: &mut [u32], list: &[u8], c: Turn) -> Arrival
+    requires { ⌜ (length (now store) ≡ 9216) × (c .pairs * 2 ≤ length (now list)) ⌝ }
+    ensures { λ h. ⌜ (h ≡ tookDef (now (list .entry)) (now (store .entry)) c .arrival) × ((now (store .exit) ≡ tookDef (now (list .entry)) (now (store .entry)) c .store) × (h .own < 16)) ⌝ }
+{
+    let busy = c.busy;
+    let p = next_pair(list, c.at, c.pairs, &busy);
+    take_pair(store, p, c)
+}
+
+// ---- what goes out
+
+// All that goes from box b to box j, where it is a link.
+fn post_to(
+    store: &mut [u32],
+    links: u16,
+    b: usize,
+    j: usize,
+    l: Letter,
+    known: &[u16; 16],
+    c: Counts,
+) -> Counts
+    requires { ⌜ (length (now store) ≡ 9216) × ((b < 16) × (j < 16)) ⌝ }
+    ensures { λ r. ⌜ posted (now (store .exit)) r ≡ cond (mem j links) (postLink (wireOf b j) l (now (known .entry)) (posted (now (store .entry)) c)) (posted (now (store .entry)) c) ⌝ }
+{
+    if sets::is_in(links, j) {
+        return mail::post_link(store, b * 16 + j, l, known, c);
+    }
+    c
+}
+
+// To every link, ascending.
+fn post_each(store: &mut [u32], o: Departure, links: u16, c: Counts) -> Counts
+    requires { ⌜ length (now store) ≡ 9216 ⌝ }
+    ensures { λ r. ⌜ posted (now (store .exit)) r ≡ postTo o links 16 (posted (now (store .entry)) c) ⌝ }
+{
+    let b = o.own % 16;
+    let own = sets::only(b);
+    let known = o.neighbors;
+    let mut q = c;
+    for j in 0..16 {
+        let l = Letter {
+            wakes: o.wakes,
+            own: own,
+            round: o.round,
+            origins: o.origins[j],
+            set: o.sets[j],
+        };
+        q = post_to(store, links, b, j, l, &known, q);
+    }
+    q
+}
+
+// A box that neither wakes nor does a round sends nothing: most turns end here, with no table touched.
+fn post_all(store: &mut [u32], o: Departure, links: u16, c: Counts) -> Counts
+    requires { ⌜ length (now store) ≡ 9216 ⌝ }
+    ensures { λ r. ⌜ posted (now (store .exit)) r ≡ postTo o links 16 (posted (now (store .entry)) c) ⌝ }
+{
+    if sends(o.wakes, o.round) {
+        return post_each(store, o, links, c);
+    }
+    c
+}
+
+// ---- what is carried on
+
+// Whether anything goes out.
+fn sends(wakes: bool, round: bool) -> bool
+    ensures { λ r. ⌜ r ≡ wakes || round ⌝ }
+{
+    if wakes {
+        return true;
+    }
+    round
+}
+
+// The box has stopped in this turn.
+fn stopping(stops: bool, wakes: bool, round: bool) -> bool
+    ensures { λ r. ⌜ r ≡ stops && (wakes || round) ⌝ }
+{
+    if stops {
+        return sends(wakes, round);
+    }
+    false
+}
+
+// "A stopping box empties its queues."
+fn clear_ended(store: &mut [u32], ended: bool, b: usize, links: u16)
+    requires { ⌜ (length (now store) ≡ 9216) × (b < 16) ⌝ }
+    ensures { λ _. ⌜ now (store .exit) ≡ cond ended (clearTo b links 16 (now (store .entry))) (now (store .entry)) ⌝ }
+{
+    if ended {
+        mail::clear_all(store, b, links);
+    }
+}
+
+// The receivers that the sender still has messages under way to: not b, once its last message was moved.
+fn less_busy(store: &[u32], moved: bool, a: usize, b: usize, to: u16) -> u16
+    requires { ⌜ (length (now store) ≡ 9216) × ((a < 16) × (b < 16)) ⌝ }
+    ensures { λ r. ⌜ r ≡ lessOf (now (store .entry)) moved a b to ⌝ }
+{
+    if moved {
+        if wires::under_way(store, a * 16 + b) == 0 {
+            return sets::minus(to, sets::only(b));
+        }
+    }
+    to
+}
+
+// A box that sends has messages under way to each of its links.
+fn more_busy(sends: bool, links: u16, to: u16) -> u16
+    ensures { λ r. ⌜ r ≡ cond sends (bitOr to links) to ⌝ }
+{
+    if sends {
+        return to | links;
+    }
+    to
+}
+
+fn left_after(left: usize, at: usize, pairs: usize, moved: bool) -> usize
+    requires { ⌜ 1 ≤ left ⌝ }
+    ensures { λ r. ⌜ r ≡ leftAfter left at pairs moved ⌝ }
+{
+    if at < pairs {
+        return left - 1;
+    }
+    if moved { left - 1 } else { 0 }
+}
+
+fn at_after(at: usize, pairs: usize) -> usize
+    ensures { λ r. ⌜ r ≡ atAfter at pairs ⌝ }
+{
+    if at < pairs { at + 1 } else { at }
+}
+
+fn moved_after(n: u32, moved: bool) -> u32
+    ensures { λ r. ⌜ r ≡ movedAfter n moved ⌝ }
+{
+    if moved {
+        return std::num::wrapping_add_u32(n, 1);
+    }
+    n
+}
+
+fn awake_after(awake: u16, b: usize, ended: bool, wakes: bool) -> u16
+    requires { ⌜ b < 16 ⌝ }
+    ensures { λ r. ⌜ r ≡ cond ended (without awake (2 ^ b)) (cond wakes (bitOr awake (2 ^ b)) awake) ⌝ }
+{
+    if ended {
+        return sets::minus(awake, sets::only(b));
+    }
+    if wakes {
+        return awake | sets::only(b);
+    }
+    awake
+}
+
+fn stopped_after(stopped: u16, b: usize, ended: bool) -> u16
+    requires { ⌜ b < 16 ⌝ }
+    ensures { λ r. ⌜ r ≡ cond ended (bitOr stopped (2 ^ b)) stopped ⌝ }
+{
+    if ended {
+        return stopped | sets::only(b);
+    }
+    stopped
+}
+
+fn heard_after(ended: bool, heard: u16) -> u16
+    ensures { λ r. ⌜ r ≡ cond ended 0 heard ⌝ }
+{
+    if ended { 0 } else { heard }
+}
+
+// What goes out, and the next turn's state, which is this one's where it stands.
+fn put(store: &mut [u32], o: Departure, c: Turn) -> Turn
+    requires { ⌜ (length (now store) ≡ 9216) × (1 ≤ c .left) ⌝ }
+    ensures { λ r. ⌜ (r ≡ putDef (now (store .entry)) o c .turn) × (now (store .exit) ≡ putDef (now (store .entry)) o c .store) ⌝ }
+{
+    let a = o.from % 16;
+    let b = o.own % 16;
+    let ended = stopping(o.stops, o.wakes, o.round);
+    let mut n = c;
+    let links = n.links[b];
+    n.heard[b] = heard_after(ended, o.heard);
+    n.busy[a] = less_busy(store, o.moved, a, b, n.busy[a]);
+    n.busy[b] = more_busy(sends(o.wakes, o.round), links, n.busy[b]);
+    clear_ended(store, ended, b, links);
+    let first = Counts {
+        sent: c.sent,
+        full: c.full,
+    };
+    let p = post_all(store, o, links, first);
+    n.left = left_after(c.left, c.at, c.pairs, o.moved);
+    n.at = at_after(c.at, c.pairs);
+    n.sent = p.sent;
+    n.moved = moved_after(c.moved, o.moved);
+    n.full = p.full;
+    n.awake = awake_after(c.awake, b, ended, o.wakes);
+    n.stopped = stopped_after(c.stopped, b, ended);
+    n
+}
+
+// ---- turns that touch no record
+
+// What a look at the next pair shows: whether the record stays as it is, whether a message was moved, and the links whose queue then holds one.
+pub struct Glance {
+    pub quiet: bool,
+    pub moved: bool,
+    pub heard: u16,
+}
+
+fn seen(quiet: bool, moved: bool, heard: u16) -> Glance
+    ensures { λ k. ⌜ k ≡ seenAs quiet moved heard ⌝ }
+{
+    Glance {
+        quiet: quiet,
+        moved: moved,
+        heard: heard,
+    }
+}
+
+// The queue of the wire from a is empty, and the box is awake: a set that completes no round only waits.
+fn look_first(store: &mut [u32], r: Receiver, a: usize) -> Glance
+    requires { ⌜ (length (now store) ≡ 9216) × ((a < 16) × (r .own < 16)) ⌝ }
+    ensures { λ k. ⌜ glanced (now (store .exit)) k ≡ glanceFirst r a (now (store .entry)) ⌝ }
+{
+    let i = a * 16 + r.own;
+    if wires::is_list(wires::first(store, i)) {
+        return seen(false, false, r.heard);
+    }
+    let joined = r.heard | sets::only(a);
+    if joined == r.links {
+        return seen(false, false, r.heard);
+    }
+    wires::arrive(store, i);
+    seen(true, true, joined)
+}
+
+// The oldest message from a is moved where that touches no record; else nothing is done.
+fn look(store: &mut [u32], r: Receiver, a: usize) -> Glance
+    requires { ⌜ (length (now store) ≡ 9216) × ((a < 16) × (r .own < 16)) ⌝ }
+    ensures { λ k. ⌜ glanced (now (store .exit)) k ≡ glanceTo r a (now (store .entry)) ⌝ }
+{
+    let i = a * 16 + r.own;
+    if wires::under_way(store, i) == 0 {
+        return seen(true, false, r.heard);
+    }
+    if r.stopped {
+        wires::skip(store, i);
+        return seen(true, true, r.heard);
+    }
+    if r.sleeps {
+        return seen(false, false, r.heard);
+    }
+    if wires::queued(store, i) == 0 {
+        return look_first(store, r, a);
+    }
+    wires::arrive(store, i);
+    seen(true, true, r.heard)
+}
+
+// A box that has started starts no more; where the search finds no wire, the run is over.
+fn look_at(store: &mut [u32], p: Pair, r: Receiver) -> Glance
+    requires { ⌜ (length (now store) ≡ 9216) × ((p .«from» < 16) × (r .own < 16)) ⌝ }
+    ensures { λ k. ⌜ glanced (now (store .exit)) k ≡ glancePair p r (now (store .entry)) ⌝ }
+{
+    if p.some {
+        if p.from == r.own {
+            return seen(!r.sleeps, false, r.heard);
+        }
+        return look(store, r, p.from);
+    }
+    seen(false, false, r.heard)
+}
+
+// As many turns as touch no record, one after the other: most turns of a run, with no step and no table copied.
+fn pass(store: &mut [u32], list: &[u8], c: Turn) -> Turn
+    requires { ⌜ (length (now store) ≡ 9216) × (c .pairs * 2 ≤ length (now list)) ⌝ }
+    ensures { λ r. ⌜ kept (now (store .exit)) r ≡ passAll (now (list .entry)) (kept (now (store .entry)) c) ⌝ }
+{
+    let mut q = c;
+    while 0 < q.left {
+        let p = next_pair(list, q.at, q.pairs, &q.busy);
+        let a = p.from;
+        let b = p.to;
+        let r = receiver_of(b, q.links[b], q.heard[b], q.awake, q.stopped);
+        let k = look_at(store, p, r);
+        if !k.quiet {
+            return q;
+        }
+        q.heard[b] = k.heard;
+        q.busy[a] = less_busy(store, k.moved, a, b, q.busy[a]);
+        q.moved = moved_after(q.moved, k.moved);
+        q.left = left_after(q.left, q.at, q.pairs, k.moved);
+        q.at = at_after(q.at, q.pairs);
+    }
+    q
+}
+
+// What goes out, and the turns after it that touch no record.
+pub fn go_on(store: &mut [u32], list: &[u8], o: Departure, c: Turn) -> Turn
+    requires { ⌜ (length (now store) ≡ 9216) × ((1 ≤ c .left) × (c .pairs * 2 ≤ length (now list))) ⌝ }
+    ensures { λ r. ⌜ kept (now (store .exit)) r ≡ passAll (now (list .entry)) (putDef (now (store .entry)) o c) ⌝ }
+{
+    let n = put(store, o, c);
+    pass(store, list, n)
+}
