@@ -1,5 +1,5 @@
 -- The loops of the definitions: the first that passes, some, each, how many, sums, lists joined, and what is done for each member of a set. Assumes nothing.
-use Prim.Native.Nat.{ℕ, zero, suc, _+_, _/_, _%_, _^_, _≤_, _<_}
+use Prim.Native.Nat.{ℕ, zero, suc, _+_, _-_, _/_, _%_, _^_, _≤_, _<_}
 use mathlib.Core.Path.{_≡_, refl, sym, ap, ap₂, _∙_}
 use mathlib.Core.Bool.{Bool, true, false, not, _&&_, _||_, cond, true≢false, false≢true}
 use mathlib.Core.List.{List, [], _∷_, _++_}
@@ -250,20 +250,31 @@ first-off {A} s f j (suc n) a l e none =
           rw (keeps-other s j n z) (ap (λ (r : A). cond (mem n s) (f n r) r) (first-off s f j n a (omega arith) e none))
     ]
 
-module _ (w s j : ℕ) (h : s < 2 ^ w) (some : s ≢ 0) (is : j ≡ least w (λ k. mem k s)) where
+-- One turn: j is the lowest box of s, and r is what remains. Such a loop's invariant says that what remains to be done now comes to all that was to be done
+-- at first, `forEach r f w (state now) ≡ forEach s₀ f w (state at first)`, and its measure is the number r.
+module _ (w : ℕ) {s j : ℕ} (small : s < 2 ^ w) (some : s ≢ 0) (lowest : j ≡ least w (λ k. mem k s)) where
   pub lowest-lt : j < w
-  lowest-lt = let (k, l, m) = some-member w s h some in omega (arith, least-hit w (λ k. mem k s) k l m .0)
+  lowest-lt = let (k, l, m) = some-member w s small some in omega (arith, least-hit w (λ k. mem k s) k l m .0)
 
   pub lowest-in : mem j s ≡ true
-  lowest-in = let (k, l, m) = some-member w s h some in rw is (least-hit w (λ k. mem k s) k l m .1)
+  lowest-in = let (k, l, m) = some-member w s small some in rw lowest (least-hit w (λ k. mem k s) k l m .1)
 
-  -- one box less is left
-  pub lowest-less : (r : ℕ) → r ≡ without s (2 ^ j) → r < s
-  unfolding without
-  lowest-less r e = 
-      let both : bitAnd s (2 ^ j) ≢ 0 = λ z. not-both j (bitAnd s (2 ^ j)) (and-in j s (2 ^ j) lowest-in (one-in j)) (rw z (mem-empty j)) in
-      omega (arith, and-le-l s (2 ^ j), both)
+  module _ {o r : ℕ} (one : o ≡ 2 ^ j) (rest : r ≡ without s o) where
+    pub rest-less : r < s
+    unfolding without
+    rest-less =
+        let both : bitAnd s (2 ^ j) ≢ 0 = λ z. not-both j (bitAnd s (2 ^ j)) (and-in j s (2 ^ j) lowest-in (one-in j)) (rw z (mem-empty j)) in
+        let e : r ≡ s - bitAnd s (2 ^ j) = rest ∙ ap (without s) one in
+        omega (arith, and-le-l s (2 ^ j), both)
 
-  -- what is left to do after a turn comes to what was left before it
-  pub lowest-off : {A : Type 0} (f : ℕ → A → A) (r : ℕ) (x y : A) → r ≡ without s (2 ^ j) → y ≡ f j x → forEach r f w y ≡ forEach s f w x
-  lowest-off f r x y e g = rw (e, g) (sym (first-off s f j w x lowest-lt lowest-in (λ k l. least-min w (λ k. mem k s) k (omega arith))))
+    pub rest-small : r < 2 ^ w
+    rest-small = omega (arith, rest-less)
+
+    -- what remains to be done after the turn comes to what remained before it
+    pub rest-done : {A : Type 0} (f : ℕ → A → A) (x : A) {y : A} → y ≡ f j x → forEach r f w y ≡ forEach s f w x
+    rest-done f x e =
+        rw (rest, one, e) (sym (first-off s f j w x lowest-lt lowest-in (λ k l. least-min w (λ k. mem k s) k (omega arith))))
+
+-- after the last turn nothing remains
+pub none-left : {A : Type 0} (f : ℕ → A → A) (n : ℕ) {s : ℕ} {x y : A} → s ≡ 0 → forEach s f n x ≡ y → x ≡ y
+none-left f n {x = x} z e = sym (forEach-empty f n x) ∙ (rw z at e)
