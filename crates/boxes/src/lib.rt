@@ -178,7 +178,7 @@ fn state_with(s: u16) -> u16
 
 // A round's first half. "Take one from each link, ascending by neighbour. New identities are those in the set that are in no In_SPT yet; they join In_SPT
 // of this link and Nodes(HOP+1). The whole set joins Not_SPT of this link." What is known and what was gained are kept beside the tables,
-// so that a link costs no walk through In_SPT; an empty set taken from a box that is no link changes nothing.
+// so that a link costs no walk through In_SPT.
 pub fn take_sets(r: Record, links: u16, heads: [u16; 16]) -> Record
     ensures { λ q. ⌜ q ≡ recordOf (takeSets 16 links (word heads) (boxOf r)) ⌝ }
 {
@@ -187,8 +187,11 @@ pub fn take_sets(r: Record, links: u16, heads: [u16; 16]) -> Record
     let mut gained: u16 = 0;
     let next = (r.hop as usize) + 1;
     let mut q = r;
-    for j in 0..16 {
-        let s = if_in(links, j, heads[j], 0);
+    let mut rest = links;
+    while rest != 0 {
+        let j = sets::lowest(rest);
+        rest = sets::minus(rest, sets::only(j));
+        let s = heads[j];
         let new = sets::minus(s, known);
         known = known | new;
         gained = gained | new;
