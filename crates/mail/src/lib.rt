@@ -6,13 +6,10 @@ ghost use mathlib.Core.List.{List};
 ghost use lib.Bits.{bitOr};
 ghost use lib.Dec.{ltb};
 ghost use lib.ListN.{length};
-ghost use Rattle.rules.specs.Sets.{mem, word};
-ghost use Rattle.rules.specs.Box.{neighbors};
-ghost use Rattle.wires.specs.Words.{wordOf};
-ghost use Rattle.wires.specs.Wires.{sixteen, queued, cleared};
+ghost use Rattle.wires.specs.Wires.{sixteen, queued};
 ghost use Rattle.mail.specs.Post.{postWord, postLists, postIf};
 ghost use Rattle.mail.specs.Letter.{posted, postLink};
-ghost use Rattle.mail.specs.Gather.{gotNothing, wireOf, listAt, takeList, takeLists, gatherLink, gatherTo, clearTo};
+ghost use Rattle.mail.specs.Gather.{gotNothing, listAt, takeList, takeLists, gatherLink, gatherTo, clearTo};
 ghost use Rattle.mail.specs.Gathered.{got};
 
 // How many messages were sent, and whether one found no room on its wire (refusal 13).
