@@ -12,6 +12,7 @@
  *   the call was done, and else the number of the first refusal that applies, in the order given at the call; all other fields are then 0.
  * - A refusal changes nothing: no word or byte of the memory that was lent to be written.
  * - Nothing is read outside [pointer, pointer + length), and nothing is written outside the memory that is not const.
+ * - It takes at most DEROWLAS_STACK_BYTES of the caller's stack, and no other memory: measured by tests/c/stack.c, since no proof speaks of it.
  * - It keeps no state. Any thread may call at any time, as long as no two threads write the same lent memory, or one writes what another reads.
  *
  * What the caller owes, since nothing can check it
@@ -43,6 +44,9 @@ extern "C" {
 
 /* The longest sheet, 4 + 2 * DEROWLAS_LINKS bytes: a buffer of this size is never refused with 15. */
 #define DEROWLAS_SHEET_BYTES 244
+
+/* The stack that a call may take: a thread that calls has this much left. */
+#define DEROWLAS_STACK_BYTES 65536
 
 /*
  * `number` of an answer. The numbers 9, 10, 11 and 13 are of the calls on lists of deliveries.

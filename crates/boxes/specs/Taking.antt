@@ -1,28 +1,19 @@
 -- A round's first half as the code does it: what is known and what was gained are kept beside the tables, and Nodes(HOP+1) is written once, after the
 -- last link. Proved: what that comes to is the rules' takeSets. Assumes nothing.
-use Prim.Native.Nat.{ℕ, zero, suc, _+_, _<_, _≤_}
+use Prim.Native.Nat.{ℕ, zero, suc, _+_, _^_, _<_, _≤_}
 use native.Mathlib.Omega.{arith}
 use mathlib.Core.Path.{_≡_, refl, sym, ap, _∙_}
-use mathlib.Core.Bool.{Bool, true, false, cond}
+use mathlib.Core.Logic.{_≢_}
 use mathlib.Core.List.{List}
 use lib.Bits.{bitOr}
 use lib.ListN.{length, set, length-set}
 use lib.Seq.{set-out}
-use Rattle.rules.specs.Sets.{mem, without, word, union, joinAt, forEach}
+use Rattle.rules.specs.Sets.{mem, without, word, least, union, joinAt, forEach}
+use Rattle.sets.specs.Loops.{lowest-lt, rest-less, rest-small, rest-done, none-left}
 use Rattle.rules.specs.Box.{Box, takeSet, takeSets}
 use Rattle.boxes.specs.declared.Record.{Record}
 use Rattle.boxes.specs.Record.{boxOf, recordOf}
 use Rattle.boxes.specs.Tables.{join-none, without-none, join-join, union-join}
-
--- an empty set taken changes nothing
-pub take-none : (w j : ℕ) (b : Box) → takeSet w j 0 b ≡ b
-unfolding takeSet
-take-none w j b = rw (without-none, join-none, join-none, join-none)
-
--- the set s taken where the test holds, and the empty set where it does not
-pub take-if : (w j s : ℕ) (p : Bool) (b : Box) → takeSet w j (cond p s 0) b ≡ cond p (takeSet w j s b) b
-take-if w j s true b = refl
-take-if w j s false b = take-none w j b
 
 -- the box that q is once Nodes(HOP+1) has what was gained
 unfoldable pub withGained : ℕ → Record → Box
@@ -68,38 +59,52 @@ hop-next : (j s new : ℕ) (q : Record) → takenFrom j s new q .hop ≡ q .hop
 unfolding takenFrom
 hop-next j s new q = refl
 
--- before link j
-pub record Mid (links : ℕ) (heads : List ℕ) (r : Record) (j known gained : ℕ) (q : Record) : Type 0 where
+-- the set at a link's head is taken
+abbrev pub takeHead : List ℕ → ℕ → Box → Box
+takeHead heads k = takeSet 16 k (word heads k)
+
+-- while the links `rest` remain
+pub record Mid (links : ℕ) (heads : List ℕ) (r : Record) (rest known gained : ℕ) (q : Record) : Type 0 where
+  pub rest-is : rest < 65536
   pub hop-is : q .hop ≡ r .hop
   pub known-is : known ≡ union 16 (q .«in_spt»)
   pub in-size : length (q .«in_spt») ≡ 16
   pub nodes-size : length (q .nodes) ≡ 16
-  pub box-is : withGained gained q ≡ forEach links (λ k. takeSet 16 k (word heads k)) j (boxOf r)
+  pub box-is : forEach rest (takeHead heads) 16 (withGained gained q) ≡ forEach links (takeHead heads) 16 (boxOf r)
 
 module _ (links : ℕ) (heads : List ℕ) (r : Record) where
-  pub mid-first : (known : ℕ) → known ≡ union 16 (r .«in_spt») → length (r .«in_spt») ≡ 16 → length (r .nodes) ≡ 16 → Mid links heads r 0 known 0 r
-  unfolding withGained forEach boxOf
-  mid-first known e l m = record { hop-is = refl; known-is = e; in-size = l; nodes-size = m; box-is = rw join-none }
+  pub mid-first : (known : ℕ) → links < 65536 → known ≡ union 16 (r .«in_spt») → length (r .«in_spt») ≡ 16 → length (r .nodes) ≡ 16 → Mid links heads r links known 0 r
+  unfolding withGained boxOf
+  mid-first known k e l m = record { rest-is = k; hop-is = refl; known-is = e; in-size = l; nodes-size = m; box-is = rw join-none }
 
-  pub mid-next : (j known gained : ℕ) (q : Record) → Mid links heads r j known gained q → j < 16 → (s new : ℕ) → s ≡ cond (mem j links) (word heads j) 0 → new ≡ without s known
-      → Mid links heads r (suc j) (bitOr known new) (bitOr gained new) (takenFrom j s new q)
-  unfolding forEach
-  mid-next j known gained q m l s new es en =
-      let ek = m .known-is in
-      let li : j < length (q .«in_spt») = rw (m .in-size) l in
-      let e : new ≡ without s (union 16 (q .«in_spt»)) = rw ek at en in
-      record {
-        hop-is = hop-next j s new q ∙ m .hop-is;
-        known-is = known-next j s new known q l li ek;
-        in-size = in-next j s new q ∙ m .in-size;
-        nodes-size = ap length (nodes-next j s new q) ∙ m .nodes-size;
-        box-is = rw e (take-gained j s gained q ∙ rw (m .box-is, es) (take-if 16 j (word heads j) (mem j links) (forEach links (λ k. takeSet 16 k (word heads k)) j (boxOf r))));
-      }
+  -- link j is the lowest that remains
+  module _ (rest known gained : ℕ) (q : Record) (m : Mid links heads r rest known gained q) (some : rest ≢ 0) (j o rest′ : ℕ) (ej : j ≡ least 16 (λ k. mem k rest)) (eo : o ≡ 2 ^ j)
+      (er : rest′ ≡ without rest o) where
+    pub mid-below : j < 16
+    mid-below = lowest-lt 16 (m .rest-is) some ej
+
+    pub mid-less : rest′ < rest
+    mid-less = rest-less 16 (m .rest-is) some ej eo er
+
+    pub mid-next : (s new : ℕ) → s ≡ word heads j → new ≡ without s known → Mid links heads r rest′ (bitOr known new) (bitOr gained new) (takenFrom j s new q)
+    mid-next s new es en =
+        let ek = m .known-is in
+        let li : j < length (q .«in_spt») = rw (m .in-size) mid-below in
+        let e : new ≡ without s (union 16 (q .«in_spt»)) = rw ek at en in
+        let one : withGained (bitOr gained new) (takenFrom j s new q) ≡ takeHead heads j (withGained gained q) = rw e (take-gained j s gained q ∙ ap (λ (z : ℕ). takeSet 16 j z (withGained gained q)) es) in
+        record {
+          rest-is = rest-small 16 (m .rest-is) some ej eo er;
+          hop-is = hop-next j s new q ∙ m .hop-is;
+          known-is = known-next j s new known q mid-below li ek;
+          in-size = in-next j s new q ∙ m .in-size;
+          nodes-size = ap length (nodes-next j s new q) ∙ m .nodes-size;
+          box-is = rest-done 16 (m .rest-is) some ej eo er (takeHead heads) (withGained gained q) one ∙ m .box-is;
+        }
 
   -- after the last link
-  pub mid-last : (known gained : ℕ) (q : Record) → Mid links heads r 16 known gained q → recordOf (withGained gained q) ≡ recordOf (takeSets 16 links (word heads) (boxOf r))
+  pub mid-last : (rest known gained : ℕ) (q : Record) → rest ≡ 0 → Mid links heads r rest known gained q → recordOf (withGained gained q) ≡ recordOf (takeSets 16 links (word heads) (boxOf r))
   unfolding takeSets
-  mid-last known gained q m = ap recordOf (m .box-is)
+  mid-last rest known gained q z m = ap recordOf (none-left (takeHead heads) 16 z (m .box-is))
 
 -- nothing is stored past the end of Nodes
 pub gained-past : (gained : ℕ) (q : Record) → length (q .nodes) ≡ 16 → 16 ≤ suc (q .hop) → q ≡ recordOf (withGained gained q)

@@ -8,7 +8,7 @@ ghost use lib.ListN.{length, set, getD};
 ghost use Rattle.rules.specs.Sets.{mem, without, word, union};
 ghost use Rattle.rules.specs.Box.{asleep, started, takeSets, before};
 ghost use Rattle.boxes.specs.Record.{boxOf, recordOf, blank};
-ghost use Rattle.boxes.specs.Step.{hopped, withoutEach, saveAll, settled, rounded, worked, stepDef};
+ghost use Rattle.boxes.specs.Step.{hopped, withoutEach, saveAll, setsOf, originsOf, stepDef};
 
 // state: 0 asleep, 1 awake, 2 stopped. "A record carries its arrays with it, tables and counts together."
 pub struct Record {
@@ -178,7 +178,7 @@ fn state_with(s: u16) -> u16
 
 // A round's first half. "Take one from each link, ascending by neighbour. New identities are those in the set that are in no In_SPT yet; they join In_SPT
 // of this link and Nodes(HOP+1). The whole set joins Not_SPT of this link." What is known and what was gained are kept beside the tables,
-// so that a link costs no walk through In_SPT; an empty set taken from a box that is no link changes nothing.
+// so that a link costs no walk through In_SPT.
 pub fn take_sets(r: Record, links: u16, heads: [u16; 16]) -> Record
     ensures { λ q. ⌜ q ≡ recordOf (takeSets 16 links (word heads) (boxOf r)) ⌝ }
 {
@@ -187,8 +187,11 @@ pub fn take_sets(r: Record, links: u16, heads: [u16; 16]) -> Record
     let mut gained: u16 = 0;
     let next = (r.hop as usize) + 1;
     let mut q = r;
-    for j in 0..16 {
-        let s = if_in(links, j, heads[j], 0);
+    let mut rest = links;
+    while rest != 0 {
+        let j = sets::lowest(rest);
+        rest = sets::minus(rest, sets::only(j));
+        let s = heads[j];
         let new = sets::minus(s, known);
         known = known | new;
         gained = gained | new;
@@ -216,77 +219,67 @@ pub fn next_hop(r: Record) -> Record
     q
 }
 
-// After the start and the round: the lists are saved, unless the box has stopped.
-fn settle(b: Record, a: Arrival, sets: [u16; 16], origins: [u16; 16]) -> Stepped
-    ensures { λ q. ⌜ q ≡ settled a sets origins (boxOf b) ⌝ }
-{
-    let known = b.neighbors;
-    let stops = b.state == 2;
-    let out = Departure {
-        own: a.own,
-        from: a.from,
-        moved: a.moved,
-        heard: a.heard,
-        wakes: a.wakes,
-        round: a.round,
-        stops: stops,
-        sets: sets,
-        origins: origins,
-        neighbors: known,
-    };
-    if stops {
-        return Stepped {
-            record: b,
-            out: out,
-        };
-    }
-    let listed = a.listed;
-    let lists = a.lists;
-    let now_known = save_all(known, listed, lists);
-    let mut q = b;
-    q.neighbors = now_known;
-    Stepped {
-        record: q,
-        out: out,
-    }
-}
-
-// The round's second half, of a box that has taken its sets: what goes out to each link, and the next HOP.
-fn round_out(b: Record, a: Arrival) -> Stepped
-    ensures { λ q. ⌜ q ≡ rounded a (boxOf b) ⌝ }
+// By link, the NOTSPT of the round, of a box that has taken its sets: "Nodes(HOP+1) without In_SPT(J)".
+fn sets_of(b: Record) -> [u16; 16]
+    ensures { λ q. ⌜ q ≡ setsOf (boxOf b) ⌝ }
 {
     let nodes = b.nodes;
     let spt = b.in_spt;
-    let not = b.not_spt;
-    let hop = b.hop;
-    let sets = without_each(entry(nodes, (hop as usize) + 1), spt);
-    let origins = without_each(before_of(hop, nodes), not);
-    settle(next_hop(b), a, sets, origins)
+    without_each(entry(nodes, (b.hop as usize) + 1), spt)
 }
 
-// A box that is awake: a round where every link has a NOTSPT at its head, then the lists.
-fn work(b: Record, a: Arrival) -> Stepped
-    ensures { λ q. ⌜ q ≡ worked a (boxOf b) ⌝ }
+// By link, the origins whose lists go out: "Nodes(HOP-1) without Not_SPT(J)".
+fn origins_of(b: Record) -> [u16; 16]
+    ensures { λ q. ⌜ q ≡ originsOf (boxOf b) ⌝ }
 {
-    if a.round {
-        let links = a.links;
-        let heads = a.heads;
-        return round_out(take_sets(b, links, heads), a);
-    }
-    let none: [u16; 16] = [0; 16];
-    settle(b, a, none, none)
+    let nodes = b.nodes;
+    let not = b.not_spt;
+    without_each(before_of(b.hop, nodes), not)
 }
 
-// All that one delivery, or one start, makes of a box.
+// All that one delivery, or one start, makes of a box: it starts where it slept, does a round where every link has a NOTSPT at its head, and saves
+// the lists unless it has stopped. One function, so that a record is copied once.
 pub fn step(r: Record, a: Arrival) -> Stepped
     ensures { λ q. ⌜ q ≡ stepDef r a ⌝ }
 {
+    let own = a.own;
+    let links = a.links;
+    let mut q = r;
     if a.wakes {
-        let own = a.own;
-        let links = a.links;
-        return work(started(own, links), a);
+        q = started(own, links);
     }
-    work(r, a)
+    let mut sets: [u16; 16] = [0; 16];
+    let mut origins: [u16; 16] = [0; 16];
+    if a.round {
+        let heads = a.heads;
+        let t = take_sets(q, links, heads);
+        sets = sets_of(t);
+        origins = origins_of(t);
+        q = next_hop(t);
+    }
+    let known = q.neighbors;
+    let stops = q.state == 2;
+    if !stops {
+        let listed = a.listed;
+        let lists = a.lists;
+        let now_known = save_all(known, listed, lists);
+        q.neighbors = now_known;
+    }
+    Stepped {
+        record: q,
+        out: Departure {
+            own: own,
+            from: a.from,
+            moved: a.moved,
+            heard: a.heard,
+            wakes: a.wakes,
+            round: a.round,
+            stops: stops,
+            sets: sets,
+            origins: origins,
+            neighbors: known,
+        },
+    }
 }
 
 // "a delivery rewrites the receiver's record where it sits": the step by value, its record stored back, what goes out handed on.

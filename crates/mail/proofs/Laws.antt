@@ -10,9 +10,9 @@ use lib.Bits.{bitOr}
 use lib.Dec.{ltb}
 use lib.ListN.{length, set}
 use borrow.Author.Tests.{lt-ltb, ltb-true}
-use Rattle.rules.specs.Sets.{mem, word, forEach}
+use Rattle.rules.specs.Sets.{mem, forEach}
 use Rattle.rules.specs.Box.{notspt, neighbors}
-use Rattle.sets.specs.Mem.{mem-empty, and-both}
+use Rattle.sets.specs.Mem.{and-both}
 use Rattle.wires.specs.Words.{wordOf, isList, originOf, setOf}
 use Rattle.wires.specs.Wires.{sixteen, waiting, queued, hasRoom, pushed, Pushed, front, taken, takenWord, Taken}
 use Rattle.wires.proofs.Ring.{ring-some}
@@ -21,7 +21,7 @@ use Rattle.mail.specs.declared.Letter.{Letter}
 use Rattle.mail.specs.Post.{Posted, postWord, postLists, postIf}
 use Rattle.mail.specs.Letter.{postLink}
 use Rattle.mail.specs.Gather.{Got, wireOf, listAt, takeList, takeLists, takeHead, hear, gatherLink}
-use Rattle.mail.specs.Gathered.{got, gatherIf}
+use Rattle.mail.specs.Gathered.{got}
 
 -- ---- a choice, and a loop over the members of a set
 
@@ -35,12 +35,6 @@ picked-no b c x y e f = rw (← e, f)
 pub each-next : {A : Type 0} (s : ℕ) (f : ℕ → A → A) (k : ℕ) (a x r : A) → x ≡ forEach s f k a → r ≡ cond (mem k s) (f k x) x → r ≡ forEach s f (k + 1) a
 unfolding forEach
 each-next {A} s f k a x r e g = rw add-one (g ∙ ap (λ (z : A). cond (mem k s) (f k z) z) e)
-
--- an empty set has no member to go through
-pub each-none : {A : Type 0} (f : ℕ → A → A) (n : ℕ) (a : A) → a ≡ forEach 0 f n a
-unfolding forEach
-each-none f zero a = refl
-each-none f (suc n) a = rw mem-empty (each-none f n a)
 
 -- ---- what goes out
 
@@ -62,10 +56,9 @@ pub said-no : (c : Bool) (i s : ℕ) (p : Posted) → c ≡ false → p ≡ post
 unfolding postIf
 said-no c i s p e = rw e
 
--- the list of origin k, where it is one
-pub list-yes : (b : Bool) (k s i x list : ℕ) (p q : Posted) → b ≡ mem k s → b ≡ true → x ≡ wordOf (neighbors k list) → q ≡ postWord i x p
-    → q ≡ cond (mem k s) (postWord i (wordOf (neighbors k list)) p) p
-list-yes b k s i x list p q e t w g = picked-yes b (mem k s) _ p q e t (g ∙ ap (λ (z : ℕ). postWord i z p) w)
+-- the list of origin k
+pub list-word : (k i x list : ℕ) (p q : Posted) → x ≡ wordOf (neighbors k list) → q ≡ postWord i x p → q ≡ postWord i (wordOf (neighbors k list)) p
+list-word k i x list p q w g = rw (← w) g
 
 -- ---- what has come
 
@@ -126,19 +119,19 @@ is-heard s i j n o heard e z w =
     rw (h, w)
 
 -- the head, the lists behind it, and whether the link is still heard
-pub link-yes : (t : Bool) (b j links : ℕ) (s s₁ s₂ hs ls ls₂ : List ℕ) (listed heard x y listed₂ heard₂ : ℕ) → t ≡ mem j links → t ≡ true
+pub link-gathered : (b j : ℕ) (s s₁ s₂ hs ls ls₂ : List ℕ) (listed heard x y listed₂ heard₂ : ℕ)
     → Taken sixteen s (wireOf j b) s₁ x → y ≡ setOf x
     → ((qs : List ℕ) (h : ℕ) → got s₂ qs listed₂ ls₂ h ≡ takeLists (queued sixteen s₁ (wireOf j b)) (wireOf j b) (got s₁ qs listed ls h))
     → heard₂ ≡ cond (ltb 0 (queued sixteen s₂ (wireOf j b))) (bitOr heard (2 ^ j)) heard
-    → got s₂ (set hs j y) listed₂ ls₂ heard₂ ≡ gatherIf links b j (got s hs listed ls heard)
+    → got s₂ (set hs j y) listed₂ ls₂ heard₂ ≡ gatherLink b j (got s hs listed ls heard)
 unfolding gatherLink takeHead hear
-link-yes t b j links s s₁ s₂ hs ls ls₂ listed heard x y listed₂ heard₂ e is p ey el eh =
+link-gathered b j s s₁ s₂ hs ls ls₂ listed heard x y listed₂ heard₂ p ey el eh =
     let i : ℕ = wireOf j b in
     let g : Got = got s hs listed ls heard in
     let head : got s₁ (set hs j y) listed ls heard ≡ takeHead i j g = rw (p .words, ey, p .answer) in
     let all : got s₂ (set hs j y) listed₂ ls₂ heard ≡ takeLists (queued sixteen (takeHead i j g .store) i) i (takeHead i j g) =
     el (set hs j y) heard ∙ ap (λ (z : Got). takeLists (queued sixteen (z .store) i) i z) head in
-    picked-yes t (mem j links) _ g _ e is (rw eh (ap (hear i j) all))
+    rw eh (ap (hear i j) all)
 
 -- ---- all that goes to one link
 

@@ -6,14 +6,11 @@ ghost use mathlib.Core.List.{List};
 ghost use lib.Bits.{bitOr};
 ghost use lib.Dec.{ltb};
 ghost use lib.ListN.{length};
-ghost use Rattle.rules.specs.Sets.{mem, word};
-ghost use Rattle.rules.specs.Box.{neighbors};
-ghost use Rattle.wires.specs.Words.{wordOf};
-ghost use Rattle.wires.specs.Wires.{sixteen, queued, cleared};
+ghost use Rattle.wires.specs.Wires.{sixteen, queued};
 ghost use Rattle.mail.specs.Post.{postWord, postLists, postIf};
 ghost use Rattle.mail.specs.Letter.{posted, postLink};
-ghost use Rattle.mail.specs.Gather.{gotNothing, wireOf, listAt, takeList, takeLists, gatherTo, clearTo};
-ghost use Rattle.mail.specs.Gathered.{got, gatherIf};
+ghost use Rattle.mail.specs.Gather.{gotNothing, listAt, takeList, takeLists, gatherLink, gatherTo, clearTo};
+ghost use Rattle.mail.specs.Gathered.{got};
 
 // How many messages were sent, and whether one found no room on its wire (refusal 13).
 pub struct Counts {
@@ -40,28 +37,17 @@ fn post(store: &mut [u32], i: usize, word: u32, c: Counts) -> Counts
     }
 }
 
-// The list of origin k joins wire i, where k is one of the origins.
-fn post_list(store: &mut [u32], i: usize, k: usize, origins: u16, list: u16, c: Counts) -> Counts
-    requires { ⌜ (length (now store) ≡ 9216) × ((i < 256) × (k < 16)) ⌝ }
-    ensures { λ r. ⌜ posted (now (store .exit)) r ≡ cond (mem k origins) (postWord i (wordOf (neighbors k list)) (posted (now (store .entry)) c)) (posted (now (store .entry)) c) ⌝ }
-{
-    if sets::is_in(origins, k) {
-        return post(store, i, wires::list_word(k, list), c);
-    }
-    c
-}
-
 // "send Neighbors(K), ascending, for K in .."
 fn post_lists(store: &mut [u32], i: usize, origins: u16, known: &[u16; 16], c: Counts) -> Counts
     requires { ⌜ (length (now store) ≡ 9216) × (i < 256) ⌝ }
     ensures { λ r. ⌜ posted (now (store .exit)) r ≡ postLists i origins (now (known .entry)) 16 (posted (now (store .entry)) c) ⌝ }
 {
-    if origins == 0 {
-        return c;
-    }
     let mut q = c;
-    for k in 0..16 {
-        q = post_list(store, i, k, origins, known[k], q);
+    let mut rest = origins;
+    while rest != 0 {
+        let k = sets::lowest(rest);
+        rest = sets::minus(rest, sets::only(k));
+        q = post(store, i, wires::list_word(k, known[k]), q);
     }
     q
 }
@@ -163,31 +149,27 @@ pub struct Found {
     pub heard: u16,
 }
 
-// From link j to box b, where it is a link: "Take one from each link", then the lists behind it.
+// From link j to box b: "Take one from each link", then the lists behind it.
 fn gather_link(
     store: &mut [u32],
     b: usize,
     j: usize,
-    links: u16,
     heads: &mut [u16; 16],
     lists: &mut [u16; 16],
     f: Found,
 ) -> Found
     requires { ⌜ (length (now store) ≡ 9216) × ((b < 16) × (j < 16)) ⌝ }
-    ensures { λ r. ⌜ got (now (store .exit)) (now (heads .exit)) (r .listed) (now (lists .exit)) (r .heard) ≡ gatherIf links b j (got (now (store .entry)) (now (heads .entry)) (f .listed) (now (lists .entry)) (f .heard)) ⌝ }
+    ensures { λ r. ⌜ got (now (store .exit)) (now (heads .exit)) (r .listed) (now (lists .exit)) (r .heard) ≡ gatherLink b j (got (now (store .entry)) (now (heads .entry)) (f .listed) (now (lists .entry)) (f .heard)) ⌝ }
 {
-    if sets::is_in(links, j) {
-        let i = j * 16 + b;
-        let x = wires::take(store, i);
-        heads[j] = wires::set_of(x);
-        let listed = take_lists(store, i, lists, f.listed);
-        let heard = hear(store, i, j, f.heard);
-        return Found {
-            listed: listed,
-            heard: heard,
-        };
+    let i = j * 16 + b;
+    let x = wires::take(store, i);
+    heads[j] = wires::set_of(x);
+    let listed = take_lists(store, i, lists, f.listed);
+    let heard = hear(store, i, j, f.heard);
+    Found {
+        listed: listed,
+        heard: heard,
     }
-    f
 }
 
 // All that a round of box b takes, ascending by link.
@@ -201,8 +183,11 @@ pub fn gather(store: &mut [u32], b: usize, links: u16) -> Gathered
         listed: 0,
         heard: 0,
     };
-    for j in 0..16 {
-        f = gather_link(store, b, j, links, &mut heads, &mut lists, f);
+    let mut rest = links;
+    while rest != 0 {
+        let j = sets::lowest(rest);
+        rest = sets::minus(rest, sets::only(j));
+        f = gather_link(store, b, j, &mut heads, &mut lists, f);
     }
     Gathered {
         heads: heads,
@@ -214,22 +199,15 @@ pub fn gather(store: &mut [u32], b: usize, links: u16) -> Gathered
 
 // ---- what is dropped
 
-// The queue of link j is emptied, where it is a link.
-fn clear_link(store: &mut [u32], b: usize, j: usize, links: u16)
-    requires { ⌜ (length (now store) ≡ 9216) × ((b < 16) × (j < 16)) ⌝ }
-    ensures { λ _. ⌜ now (store .exit) ≡ cond (mem j links) (cleared sixteen (now (store .entry)) (wireOf j b)) (now (store .entry)) ⌝ }
-{
-    if sets::is_in(links, j) {
-        wires::clear(store, j * 16 + b);
-    }
-}
-
 // "A stopping box empties its queues."
 pub fn clear_all(store: &mut [u32], b: usize, links: u16)
     requires { ⌜ (length (now store) ≡ 9216) × (b < 16) ⌝ }
     ensures { λ _. ⌜ now (store .exit) ≡ clearTo b links 16 (now (store .entry)) ⌝ }
 {
-    for j in 0..16 {
-        clear_link(store, b, j, links);
+    let mut rest = links;
+    while rest != 0 {
+        let j = sets::lowest(rest);
+        rest = sets::minus(rest, sets::only(j));
+        wires::clear(store, j * 16 + b);
     }
 }

@@ -1,16 +1,19 @@
 -- The loops of the definitions: the first that passes, some, each, how many, sums, lists joined, and what is done for each member of a set. Assumes nothing.
-use Prim.Native.Nat.{ℕ, zero, suc, _+_, _^_, _≤_, _<_}
+use Prim.Native.Nat.{ℕ, zero, suc, _+_, _-_, _/_, _%_, _^_, _≤_, _<_}
 use mathlib.Core.Path.{_≡_, refl, sym, ap, ap₂, _∙_}
 use mathlib.Core.Bool.{Bool, true, false, not, _&&_, _||_, cond, true≢false, false≢true}
 use mathlib.Core.List.{List, [], _∷_, _++_}
 use mathlib.Core.Logic.{_⊎_, inl, inr, ⊎-elim, _≢_}
+use native.Mathlib.Nat.{mod-lt, zero-lt-suc}
 use native.Mathlib.Omega.{arith}
 use native.Mathlib.Decide.{ℕ-discrete, decLt}
+use lib.Bits.{bitAnd, and-le-l}
+use lib.Count.{trailingZeros}
 use lib.ListN.{length, getD, length-append, List·getD-append, List·getD-eq-default}
 use lib.Pow.{pow-pos}
 use lib.Seq.{getD-at}
-use Rattle.rules.specs.Sets.{mem, bit, least, any, all, count, sum, each, words, members, forEach}
-use Rattle.sets.specs.Mem.{and-both, bit-le, ext, mem-empty}
+use Rattle.rules.specs.Sets.{mem, without, bit, least, any, all, count, sum, each, words, members, forEach}
+use Rattle.sets.specs.Mem.{digit, mem-zero, mem-suc, mem-empty, mem-without, ext, bit-le, and-both, and-in, one-in, in-one, in-without, without-in, bool-ext, not-both}
 
 -- a test goes one of two ways, and each way knows which
 pub by-bool {ℓ} : {P : Type ℓ} (b : Bool) → (b ≡ true → P) → (b ≡ false → P) → P
@@ -206,3 +209,72 @@ forEach-keeps s f P zero a z h g = z
 forEach-keeps s f P (suc n) a z h g =
     let ih : P n (forEach s f n a) = forEach-keeps s f P n a z (λ k x l. h k x (omega arith)) (λ k x l. g k x (omega arith)) in
     by-bool (mem n s) (λ e. rw e (h n _ (omega arith) e ih)) (λ e. rw e (g n _ (omega arith) e ih))
+
+pub forEach-none : {A : Type 0} (s : ℕ) (f : ℕ → A → A) (n : ℕ) (a : A) → ((k : ℕ) → k < n → mem k s ≡ false) → forEach s f n a ≡ a
+unfolding forEach
+forEach-none s f zero a h = refl
+forEach-none s f (suc n) a h = rw (h n (omega arith)) (forEach-none s f n a (λ k l. h k (omega arith)))
+
+-- an empty set has no member to go through
+pub forEach-empty : {A : Type 0} (f : ℕ → A → A) (n : ℕ) (a : A) → forEach 0 f n a ≡ a
+forEach-empty f n a = forEach-none 0 f n a (λ k l. mem-empty k)
+
+-- ---- a set that loses its lowest box at each turn, until it is empty
+
+-- what the count of zeros below the lowest digit gives
+pub trailing-least : (w s : ℕ) → trailingZeros w s ≡ least w (λ k. mem k s)
+unfolding trailingZeros least
+trailing-least zero s = refl
+trailing-least (suc w) s =
+    let rest : trailingZeros w (s / 2) ≡ least w (λ k. mem (suc k) s) = trailing-least w (s / 2) ∙ least-same w (λ k. mem k (s / 2)) (λ k. mem (suc k) s) (λ k l. sym (mem-suc k s)) in
+    ⊎-elim
+    (λ (e : s % 2 ≡ 0). rw (mem-zero s, e) (ap suc rest))
+    (λ (e : s % 2 ≡ 1). rw (mem-zero s, e))
+    (digit (s % 2) (mod-lt s (zero-lt-suc 1)))
+
+keeps-other : (s j k : ℕ) → k ≢ j → mem k (without s (2 ^ j)) ≡ mem k s
+keeps-other s j k h =
+    by-bool (mem k (2 ^ j))
+    (λ e. absurd (h (in-one k j e)))
+    (λ e. bool-ext _ (mem k s) (λ m. in-without k s (2 ^ j) m .0) (λ m. without-in k s (2 ^ j) m e))
+
+-- the first member may be done before the loop over the others
+first-off : {A : Type 0} (s : ℕ) (f : ℕ → A → A) (j n : ℕ) (a : A) → j < n → mem j s ≡ true → ((k : ℕ) → k < j → mem k s ≡ false)
+    → forEach s f n a ≡ forEach (without s (2 ^ j)) f n (f j a)
+unfolding forEach
+first-off s f j zero a l e none = absurd (omega arith)
+first-off {A} s f j (suc n) a l e none =
+    elim (ℕ-discrete n j) [
+      | yes z ↦ rw (z, mem-without j s (2 ^ j), one-in j, e, forEach-none s f j a none) (sym (forEach-none (without s (2 ^ j)) f j (f j a) (λ k h. rw (mem-without k s (2 ^ j), none k h))))
+      | no z ↦
+          rw (keeps-other s j n z) (ap (λ (r : A). cond (mem n s) (f n r) r) (first-off s f j n a (omega arith) e none))
+    ]
+
+-- One turn: j is the lowest box of s, and r is what remains. Such a loop's invariant says that what remains to be done now comes to all that was to be done
+-- at first, `forEach r f w (state now) ≡ forEach s₀ f w (state at first)`, and its measure is the number r.
+module _ (w : ℕ) {s j : ℕ} (small : s < 2 ^ w) (some : s ≢ 0) (lowest : j ≡ least w (λ k. mem k s)) where
+  pub lowest-lt : j < w
+  lowest-lt = let (k, l, m) = some-member w s small some in omega (arith, least-hit w (λ k. mem k s) k l m .0)
+
+  pub lowest-in : mem j s ≡ true
+  lowest-in = let (k, l, m) = some-member w s small some in rw lowest (least-hit w (λ k. mem k s) k l m .1)
+
+  module _ {o r : ℕ} (one : o ≡ 2 ^ j) (rest : r ≡ without s o) where
+    pub rest-less : r < s
+    unfolding without
+    rest-less =
+        let both : bitAnd s (2 ^ j) ≢ 0 = λ z. not-both j (bitAnd s (2 ^ j)) (and-in j s (2 ^ j) lowest-in (one-in j)) (rw z (mem-empty j)) in
+        let e : r ≡ s - bitAnd s (2 ^ j) = rest ∙ ap (without s) one in
+        omega (arith, and-le-l s (2 ^ j), both)
+
+    pub rest-small : r < 2 ^ w
+    rest-small = omega (arith, rest-less)
+
+    -- what remains to be done after the turn comes to what remained before it
+    pub rest-done : {A : Type 0} (f : ℕ → A → A) (x : A) {y : A} → y ≡ f j x → forEach r f w y ≡ forEach s f w x
+    rest-done f x e =
+        rw (rest, one, e) (sym (first-off s f j w x lowest-lt lowest-in (λ k l. least-min w (λ k. mem k s) k (omega arith))))
+
+-- after the last turn nothing remains
+pub none-left : {A : Type 0} (f : ℕ → A → A) (n : ℕ) {s : ℕ} {x y : A} → s ≡ 0 → forEach s f n x ≡ y → x ≡ y
+none-left f n {x = x} z e = sym (forEach-empty f n x) ∙ (rw z at e)

@@ -20,7 +20,7 @@ use Rattle.rules.specs.Sets.{mem, without, bit, setOf}
 abbrev odd : ℕ → Bool
 odd n = eqb (n % 2) 1
 
-digit : (n : ℕ) → n < 2 → (n ≡ 0) ⊎ (n ≡ 1)
+pub digit : (n : ℕ) → n < 2 → (n ≡ 0) ⊎ (n ≡ 1)
 digit zero h = inl refl
 digit (suc zero) h = inr refl
 digit (suc (suc n)) h = absurd (omega arith)

@@ -1,43 +1,59 @@
--- `mail::clear_all` meets its contract: after j turns the queues of the links below j are empty. Assumes nothing.
+-- `mail::clear_all` meets its contract: at each turn the queues of the links that remain are still to be emptied. Assumes nothing.
 use borrow.Author.Needs.{needs}
-use native.Mathlib.Omega.{arith}
-use Prim.Native.Nat.{_≤_, _-_}
-use mathlib.Core.Path.{_≡_}
+use Prim.Native.Nat.{_<_}
+use mathlib.Core.Path.{_≡_, refl, _∙_}
 use lib.ListN.{length}
-use Rattle.rules.specs.Sets.{forEach}
+use Rattle.sets.specs.Loops.{lowest-lt, rest-less, rest-small, rest-done, none-left}
 use Rattle.mail.specs.Gather.{clearTo}
-use Rattle.mail.proofs.Laws.{each-next}
 use Rattle.mail.proofs.clear_all.Statement.{statement}
 use Rattle.mail.proofs.clear_all.Tie as tie
 
 abbrev Inv-loop : tie.InvT-loop
-Inv-loop store₀ b links j₀ store j = (j ≤ 16) × ((length store ≡ 9216) × (store ≡ clearTo b links j store₀))
+Inv-loop store₀ b links rest₀ store rest = (rest < 65536) × ((length store ≡ 9216) × (clearTo b rest 16 store ≡ clearTo b links 16 store₀))
 
 abbrev μ-loop : tie.MeasureT-loop
-μ-loop store₀ b links j₀ store j = 16 - j
+μ-loop store₀ b links rest₀ store rest = rest
 
 loop-holds : tie.Need-loop-holds Inv-loop μ-loop
-unfolding clearTo forEach
-loop-holds c = search needs
+loop-holds c = (search needs, (search needs, refl))
 
-clear-link-requires : tie.Need-clear-link-requires Inv-loop μ-loop
-clear-link-requires c κs = search needs
+lowest-requires : tie.Need-lowest-requires Inv-loop μ-loop
+lowest-requires c κs = search needs
 
-add-j : tie.Need-add-j Inv-loop μ-loop
-add-j c = search needs
+only-requires : tie.Need-only-requires Inv-loop μ-loop
+only-requires c κs = lowest-lt 16 (c .before .before .loop .inv .0) (c .before .loop-test .taken) (c .lowest .ensures)
+
+minus-requires : tie.Need-minus-requires Inv-loop μ-loop
+minus-requires c κs = search needs
+
+mul-clear : tie.Need-mul-clear Inv-loop μ-loop
+mul-clear c = let below = lowest-lt 16 (c .before .before .before .before .before .loop .inv .0) (c .before .before .before .before .loop-test .taken) (c .before .before .before .lowest .ensures) in search needs
+
+add-clear : tie.Need-add-clear Inv-loop μ-loop
+add-clear c = let below = lowest-lt 16 (c .before .before .before .before .before .loop .inv .0) (c .before .before .before .before .loop-test .taken) (c .before .before .before .lowest .ensures) in search needs
+
+clear-requires : tie.Need-clear-requires Inv-loop μ-loop
+clear-requires c κs = let below = lowest-lt 16 (c .before .before .before .before .before .loop .inv .0) (c .before .before .before .before .loop-test .taken) (c .before .before .before .lowest .ensures) in search needs
 
 loop-less : tie.Need-loop-less Inv-loop μ-loop
-loop-less c = search needs
+loop-less c = rest-less 16 (c .before .before .before .before .before .before .before .before .loop .inv .0) (c .before .before .before .before .before .before .before .loop-test .taken) (c .before .before .before .before .before .before .lowest .ensures) (c .before .before .before .before .before .only .ensures) (c .before .before .before .before .minus .ensures)
 
 loop-again : tie.Need-loop-again Inv-loop μ-loop
 unfolding clearTo
-loop-again c = (search needs, (search needs, each-next _ _ _ _ _ _ (c .before .before .before .before .before .loop .inv .1 .1) (c .before .before .clear-link .ensures)))
+loop-again c =
+    let off = c .before .before .before .before in
+    let held = off .before .before .before .before .loop .inv in
+    let left = off .before .before .before .loop-test .taken in (
+      rest-small 16 (held .0) left (off .before .before .lowest .ensures) (off .before .only .ensures) (off .minus .ensures),
+      (search needs, rest-done 16 (held .0) left (off .before .before .lowest .ensures) (off .before .only .ensures) (off .minus .ensures) _ _ (c .before .before .clear .ensures .words) ∙ held .1 .1),
+    )
 
 same-length : tie.Need-same-length Inv-loop μ-loop
 same-length c = search needs
 
 returns : tie.Need-returns Inv-loop μ-loop
-returns c = let e : c .before .loop .j ≡ 16 = omega arith in rw (← e) (c .before .loop .inv .1 .1)
+unfolding clearTo
+returns c = none-left _ 16 (c .loop-test .left) (c .before .loop .inv .1 .1)
 
 pub clear-all-spec : {M : Type 1} → statement M
 clear-all-spec =
@@ -46,8 +62,12 @@ clear-all-spec =
     Inv-loop
     μ-loop
     loop-holds
-    clear-link-requires
-    add-j
+    lowest-requires
+    only-requires
+    minus-requires
+    mul-clear
+    add-clear
+    clear-requires
     loop-less
     loop-again
     same-length

@@ -1,11 +1,8 @@
 -- `mail::gather_link` meets its contract. Assumes nothing.
 use borrow.Author.Needs.{needs}
-use Rattle.mail.proofs.Laws.{link-yes, picked-no}
+use Rattle.mail.proofs.Laws.{link-gathered}
 use Rattle.mail.proofs.gather_link.Statement.{statement}
 use Rattle.mail.proofs.gather_link.Tie as tie
-
-is-in-requires : tie.Need-is-in-requires
-is-in-requires c κs = search needs
 
 mul-i : tie.Need-mul-i
 mul-i c = search needs
@@ -36,17 +33,13 @@ same-length c = search needs
 
 returns : tie.Need-returns
 returns c =
-    link-yes _ (c .before .before .before .before .before .before .before .before .before .before .before .before .before .before .before .args .b) (c .before .before .before .before .before .before .before .before .before .before .before .before .before .before .before .args .j) _ _ _ _ _ _ _ _ (c .before .before .before .before .before .before .before .before .before .before .before .before .before .before .before .args .f .heard) (c .before .before .before .before .before .before .before .before .before .before .take .result) _ _ _ (c .before .before .before .before .before .before .before .before .before .before .before .before .before .is-in .ensures) (c .before .before .before .before .before .before .before .before .before .before .before .before .if1 .taken) (c .before .before .before .before .before .before .before .before .before .before .take .ensures) (c .before .before .before .before .before .before .before .set-of .ensures)
+    link-gathered (c .before .before .before .before .before .before .before .before .before .before .before .before .before .args .b) (c .before .before .before .before .before .before .before .before .before .before .before .before .before .args .j) _ _ _ _ _ _ _ (c .before .before .before .before .before .before .before .before .before .before .before .before .before .args .f .heard) (c .before .before .before .before .before .before .before .before .before .before .take .result) _ _ _ (c .before .before .before .before .before .before .before .before .before .before .take .ensures) (c .before .before .before .before .before .before .before .set-of .ensures)
     (c .before .before .before .before .take-lists .ensures) (c .hear .ensures)
-
-returns-2 : tie.Need-returns-2
-returns-2 c = picked-no _ _ _ _ (c .before .is-in .ensures) (c .if1 .left)
 
 pub gather-link-spec : {M : Type 1} → statement M
 gather-link-spec =
     tie.close
     (tie.spec
-    is-in-requires
     mul-i
     add-i
     take-requires
@@ -56,5 +49,4 @@ gather-link-spec =
     take-lists-requires
     hear-requires
     same-length
-    returns
-    returns-2)
+    returns)
