@@ -231,10 +231,10 @@ less-some s moved a b to n y e z =
     rw (y, w)
 
 -- the letter that the code writes for box j
-pub letter-is : (o : Departure) (j own links : ℕ) (p q : Posted) → own ≡ 2 ^ (o .own % 16)
-    → q ≡ cond (mem j links) (postLink (wireOf (o .own % 16) j) (record { wakes = o .wakes; own = own; round = o .round; origins = word (o .origins) j; «set» = word (o .sets) j }) (o .neighbors) p) p
-    → q ≡ cond (mem j links) (postLink (wireOf (o .own % 16) j) (letter o j) (o .neighbors) p) p
-letter-is o j own links p q e g = rw (← e) g
+pub letter-is : (o : Departure) (j own : ℕ) (p q : Posted) → own ≡ 2 ^ (o .own % 16)
+    → q ≡ postLink (wireOf (o .own % 16) j) (record { wakes = o .wakes; own = own; round = o .round; origins = word (o .origins) j; «set» = word (o .sets) j }) (o .neighbors) p
+    → q ≡ postLink (wireOf (o .own % 16) j) (letter o j) (o .neighbors) p
+letter-is o j own p q e g = rw (← e) g
 
 -- a box that neither wakes nor does a round has nothing to say
 nothing-said : (i : ℕ) (l : Letter) (known : List ℕ) (p : Posted) → l .wakes ≡ false → l .round ≡ false → postLink i l known p ≡ p

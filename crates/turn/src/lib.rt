@@ -247,25 +247,6 @@ pub fn take(store: &mut [u32], list: &[u8], c: Turn) -> Arrival
 
 // ---- what goes out
 
-// All that goes from box b to box j, where it is a link.
-fn post_to(
-    store: &mut [u32],
-    links: u16,
-    b: usize,
-    j: usize,
-    l: Letter,
-    known: &[u16; 16],
-    c: Counts,
-) -> Counts
-    requires { ⌜ (length (now store) ≡ 9216) × ((b < 16) × (j < 16)) ⌝ }
-    ensures { λ r. ⌜ posted (now (store .exit)) r ≡ cond (mem j links) (postLink (wireOf b j) l (now (known .entry)) (posted (now (store .entry)) c)) (posted (now (store .entry)) c) ⌝ }
-{
-    if sets::is_in(links, j) {
-        return mail::post_link(store, b * 16 + j, l, known, c);
-    }
-    c
-}
-
 // To every link, ascending.
 fn post_each(store: &mut [u32], o: Departure, links: u16, c: Counts) -> Counts
     requires { ⌜ length (now store) ≡ 9216 ⌝ }
@@ -275,7 +256,10 @@ fn post_each(store: &mut [u32], o: Departure, links: u16, c: Counts) -> Counts
     let own = sets::only(b);
     let known = o.neighbors;
     let mut q = c;
-    for j in 0..16 {
+    let mut rest = links;
+    while rest != 0 {
+        let j = sets::lowest(rest);
+        rest = sets::minus(rest, sets::only(j));
         let l = Letter {
             wakes: o.wakes,
             own: own,
@@ -283,7 +267,7 @@ fn post_each(store: &mut [u32], o: Departure, links: u16, c: Counts) -> Counts
             origins: o.origins[j],
             set: o.sets[j],
         };
-        q = post_to(store, links, b, j, l, &known, q);
+        q = mail::post_link(store, b * 16 + j, l, &known, q);
     }
     q
 }
