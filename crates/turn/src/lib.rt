@@ -1,4 +1,4 @@
-// One turn of a run, but for the box's own step: the next pair, what it brings, what goes out; and the turns that touch no record. Document 01, "Lists and the drain".
+// One turn of a run, but for the box's own step: the next pair, what it brings, what goes out, what is carried on. Document 01, "Lists and the drain".
 ghost use mathlib.Core.Path.{_≡_};
 ghost use Prim.Native.Nat.{ℕ, _+_, _*_, _/_, _%_, _^_, _<_, _≤_};
 ghost use mathlib.Core.Bool.{not, _&&_, _||_, cond};
@@ -9,7 +9,6 @@ ghost use Rattle.mail.specs.Gather.{clearTo, wireOf};
 ghost use Rattle.mail.specs.Letter.{posted, postLink};
 ghost use Rattle.turn.specs.Turn.{searched, pairOf, tookPair, tookDef, postTo, putDef};
 ghost use Rattle.turn.specs.Parts.{took, receiverFrom, quietTo, oneListTo, roundTo, firstTo, deliveredTo, lessOf, leftAfter, atAfter, movedAfter};
-ghost use Rattle.turn.specs.Pass.{seenAs, glanced, glanceFirst, glanceTo, glancePair, kept, passAll};
 use boxes::Arrival;
 use boxes::Departure;
 use mail::Counts;
@@ -71,7 +70,7 @@ fn search(busy: &[u16; 16]) -> Pair
 }
 
 // The pairs of the list, while it lasts; then the search.
-fn next_pair(list: &[u8], at: usize, pairs: usize, busy: &[u16; 16]) -> Pair
+pub fn next_pair(list: &[u8], at: usize, pairs: usize, busy: &[u16; 16]) -> Pair
     requires { ⌜ pairs * 2 ≤ length (now list) ⌝ }
     ensures { λ r. ⌜ (r ≡ pairOf (now (list .entry)) at pairs (now (busy .entry))) × ((r .«from» < 16) × (r .to < 16)) ⌝ }
 {
@@ -106,7 +105,7 @@ fn sleeps(awake: bool, stopped: bool) -> bool
     !stopped
 }
 
-fn receiver_of(b: usize, links: u16, heard: u16, awake: u16, stopped: u16) -> Receiver
+pub fn receiver_of(b: usize, links: u16, heard: u16, awake: u16, stopped: u16) -> Receiver
     requires { ⌜ b < 16 ⌝ }
     ensures { λ r. ⌜ (r ≡ receiverFrom b links heard awake stopped) × (r .own ≡ b) ⌝ }
 {
@@ -333,7 +332,7 @@ fn clear_ended(store: &mut [u32], ended: bool, b: usize, links: u16)
 }
 
 // The receivers that the sender still has messages under way to: not b, once its last message was moved.
-fn less_busy(store: &[u32], moved: bool, a: usize, b: usize, to: u16) -> u16
+pub fn less_busy(store: &[u32], moved: bool, a: usize, b: usize, to: u16) -> u16
     requires { ⌜ (length (now store) ≡ 9216) × ((a < 16) × (b < 16)) ⌝ }
     ensures { λ r. ⌜ r ≡ lessOf (now (store .entry)) moved a b to ⌝ }
 {
@@ -355,7 +354,7 @@ fn more_busy(sends: bool, links: u16, to: u16) -> u16
     to
 }
 
-fn left_after(left: usize, at: usize, pairs: usize, moved: bool) -> usize
+pub fn left_after(left: usize, at: usize, pairs: usize, moved: bool) -> usize
     requires { ⌜ 1 ≤ left ⌝ }
     ensures { λ r. ⌜ r ≡ leftAfter left at pairs moved ⌝ }
 {
@@ -365,13 +364,13 @@ fn left_after(left: usize, at: usize, pairs: usize, moved: bool) -> usize
     if moved { left - 1 } else { 0 }
 }
 
-fn at_after(at: usize, pairs: usize) -> usize
+pub fn at_after(at: usize, pairs: usize) -> usize
     ensures { λ r. ⌜ r ≡ atAfter at pairs ⌝ }
 {
     if at < pairs { at + 1 } else { at }
 }
 
-fn moved_after(n: u32, moved: bool) -> u32
+pub fn moved_after(n: u32, moved: bool) -> u32
     ensures { λ r. ⌜ r ≡ movedAfter n moved ⌝ }
 {
     if moved {
@@ -410,7 +409,7 @@ fn heard_after(ended: bool, heard: u16) -> u16
 }
 
 // What goes out, and the next turn's state, which is this one's where it stands.
-fn put(store: &mut [u32], o: Departure, c: Turn) -> Turn
+pub fn put(store: &mut [u32], o: Departure, c: Turn) -> Turn
     requires { ⌜ (length (now store) ≡ 9216) × (1 ≤ c .left) ⌝ }
     ensures { λ r. ⌜ (r ≡ putDef (now (store .entry)) o c .turn) × (now (store .exit) ≡ putDef (now (store .entry)) o c .store) ⌝ }
 {
@@ -436,110 +435,4 @@ fn put(store: &mut [u32], o: Departure, c: Turn) -> Turn
     n.awake = awake_after(c.awake, b, ended, o.wakes);
     n.stopped = stopped_after(c.stopped, b, ended);
     n
-}
-
-// ---- turns that touch no record
-
-// What a look at the next pair shows: whether the record stays as it is, whether a message was moved, and the links whose queue then holds one.
-pub struct Glance {
-    pub quiet: bool,
-    pub moved: bool,
-    pub heard: u16,
-}
-
-fn seen(quiet: bool, moved: bool, heard: u16) -> Glance
-    ensures { λ k. ⌜ k ≡ seenAs quiet moved heard ⌝ }
-{
-    Glance {
-        quiet: quiet,
-        moved: moved,
-        heard: heard,
-    }
-}
-
-// The queue of the wire from a is empty, and the box is awake: a set that completes no round only waits.
-fn look_first(store: &mut [u32], r: Receiver, a: usize) -> Glance
-    requires { ⌜ (length (now store) ≡ 9216) × ((a < 16) × (r .own < 16)) ⌝ }
-    ensures { λ k. ⌜ glanced (now (store .exit)) k ≡ glanceFirst r a (now (store .entry)) ⌝ }
-{
-    let i = a * 16 + r.own;
-    if wires::is_list(wires::first(store, i)) {
-        return seen(false, false, r.heard);
-    }
-    let joined = r.heard | sets::only(a);
-    if joined == r.links {
-        return seen(false, false, r.heard);
-    }
-    wires::arrive(store, i);
-    seen(true, true, joined)
-}
-
-// The oldest message from a is moved where that touches no record; else nothing is done.
-fn look(store: &mut [u32], r: Receiver, a: usize) -> Glance
-    requires { ⌜ (length (now store) ≡ 9216) × ((a < 16) × (r .own < 16)) ⌝ }
-    ensures { λ k. ⌜ glanced (now (store .exit)) k ≡ glanceTo r a (now (store .entry)) ⌝ }
-{
-    let i = a * 16 + r.own;
-    if wires::under_way(store, i) == 0 {
-        return seen(true, false, r.heard);
-    }
-    if r.stopped {
-        wires::skip(store, i);
-        return seen(true, true, r.heard);
-    }
-    if r.sleeps {
-        return seen(false, false, r.heard);
-    }
-    if wires::queued(store, i) == 0 {
-        return look_first(store, r, a);
-    }
-    wires::arrive(store, i);
-    seen(true, true, r.heard)
-}
-
-// A box that has started starts no more; where the search finds no wire, the run is over.
-fn look_at(store: &mut [u32], p: Pair, r: Receiver) -> Glance
-    requires { ⌜ (length (now store) ≡ 9216) × ((p .«from» < 16) × (r .own < 16)) ⌝ }
-    ensures { λ k. ⌜ glanced (now (store .exit)) k ≡ glancePair p r (now (store .entry)) ⌝ }
-{
-    if p.some {
-        if p.from == r.own {
-            return seen(!r.sleeps, false, r.heard);
-        }
-        return look(store, r, p.from);
-    }
-    seen(false, false, r.heard)
-}
-
-// As many turns as touch no record, one after the other: most turns of a run, with no step and no table copied.
-fn pass(store: &mut [u32], list: &[u8], c: Turn) -> Turn
-    requires { ⌜ (length (now store) ≡ 9216) × (c .pairs * 2 ≤ length (now list)) ⌝ }
-    ensures { λ r. ⌜ kept (now (store .exit)) r ≡ passAll (now (list .entry)) (kept (now (store .entry)) c) ⌝ }
-{
-    let mut q = c;
-    while 0 < q.left {
-        let p = next_pair(list, q.at, q.pairs, &q.busy);
-        let a = p.from;
-        let b = p.to;
-        let r = receiver_of(b, q.links[b], q.heard[b], q.awake, q.stopped);
-        let k = look_at(store, p, r);
-        if !k.quiet {
-            return q;
-        }
-        q.heard[b] = k.heard;
-        q.busy[a] = less_busy(store, k.moved, a, b, q.busy[a]);
-        q.moved = moved_after(q.moved, k.moved);
-        q.left = left_after(q.left, q.at, q.pairs, k.moved);
-        q.at = at_after(q.at, q.pairs);
-    }
-    q
-}
-
-// What goes out, and the turns after it that touch no record.
-pub fn go_on(store: &mut [u32], list: &[u8], o: Departure, c: Turn) -> Turn
-    requires { ⌜ (length (now store) ≡ 9216) × ((1 ≤ c .left) × (c .pairs * 2 ≤ length (now list))) ⌝ }
-    ensures { λ r. ⌜ kept (now (store .exit)) r ≡ passAll (now (list .entry)) (putDef (now (store .entry)) o c) ⌝ }
-{
-    let n = put(store, o, c);
-    pass(store, list, n)
 }

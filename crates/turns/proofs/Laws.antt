@@ -5,14 +5,13 @@ use mathlib.Core.Path.{_≡_, refl, ap, _∙_}
 use mathlib.Core.Bool.{false, _||_}
 use mathlib.Core.List.{List}
 use lib.Dec.{eqb, ltb}
-use lib.ListN.{length, getD}
+use lib.ListN.{length}
 use borrow.Author.Tests.{ne-eqb}
 use Rattle.wires.specs.Wires.{sixteen, none}
 use Rattle.boxes.specs.declared.Record.{Record}
-use Rattle.boxes.specs.Record.{blank}
-use Rattle.boxes.specs.Step.{stepDef}
+use Rattle.boxes.specs.declared.Departure.{Departure}
 use Rattle.turn.specs.declared.Turn.{Turn}
-use Rattle.turn.specs.Turn.{tookDef, nextTurn, putDef}
+use Rattle.turn.specs.Turn.{nextTurn, putDef}
 use Rattle.turn.proofs.Laws.{pick}
 use Rattle.turns.specs.declared.Ran.{Ran}
 use Rattle.turns.specs.Turns.{Going, turnDef, turnsDef, firstTurn, asleepRow, ownDef}
@@ -29,12 +28,14 @@ pub turns-on : (t : ℕ) (ls : List ℕ) (g h : Going) → 1 ≤ g .turn .left �
 unfolding turnsDef
 turns-on t ls g h l e = let n : eqb (g .turn .left) 0 ≡ false = ne-eqb (g .turn .left) 0 (λ z. omega arith) in rw (n, e)
 
--- each turn leaves fewer
+-- each turn leaves fewer, whatever its step sends
+put-less : (t : ℕ) (s : List ℕ) (o : Departure) (c : Turn) → c .left ≤ suc t → putDef s o c .turn .left ≤ t
+unfolding putDef nextTurn
+put-less t s o c l = pick (λ (k : ℕ). k ≤ t) (ltb (c .at) (c .pairs) || o .moved) (omega arith) (omega arith)
+
 pub turn-less : (t : ℕ) (ls : List ℕ) (g h : Going) → g .turn .left ≤ suc t → h ≡ turnDef ls g → h .turn .left ≤ t
-unfolding turnDef putDef nextTurn
-turn-less t ls g h l e =
-    rw e (pick (λ (k : ℕ). k ≤ t) (ltb (g .turn .at) (g .turn .pairs) || stepDef (getD (g .row) (tookDef ls (g .store) (g .turn) .arrival .own) blank) (tookDef ls (g .store) (g .turn) .arrival) .out .moved)
-    (omega arith) (omega arith))
+unfolding turnDef
+turn-less t ls g h l e = rw e (put-less t _ _ (g .turn) l)
 
 pub turn-pairs : (ls : List ℕ) (g h : Going) → h ≡ turnDef ls g → h .turn .pairs ≡ g .turn .pairs
 unfolding turnDef putDef nextTurn

@@ -21,12 +21,12 @@ use Rattle.mail.specs.Post.{Posted}
 use Rattle.mail.specs.Gather.{wireOf}
 use Rattle.turn.specs.declared.Turn.{Turn}
 use Rattle.turn.specs.declared.Pair.{Pair}
-use Rattle.turn.specs.declared.Glance.{Glance}
+use Rattle.pass.specs.declared.Glance.{Glance}
 use Rattle.turn.specs.Turn.{searched, nextPair, quiet, tookPair, tookDef, Took, lessBusy, moreBusy, ends, Put, nextTurn, putDef}
 use Rattle.turn.specs.Parts.{took, receiverOf, quietTo}
-use Rattle.turn.specs.Pass.{Glanced, glancePair, kept, glanceAt, quietTurn, passOne, passTo, passAll}
+use Rattle.pass.specs.Pass.{Glanced, glancePair, kept, glanceAt, quietTurn, passOne, passTo, passAll}
 use Rattle.turn.proofs.Laws.{pick, nothing-goes, set-same, set-if}
-use Rattle.turn.proofs.PassLaws.{pair-took, pass-less, left-some}
+use Rattle.pass.proofs.Laws.{pair-took, pass-less, left-some}
 use Rattle.turns.specs.Turns.{Going, turnDef, turnsDef}
 use Rattle.turns.specs.Parts.{going, onDef}
 use Rattle.turns.proofs.Laws.{turns-over, turns-on, turn-less, turn-pairs}

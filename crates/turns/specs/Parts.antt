@@ -3,7 +3,7 @@ use Prim.Native.Nat.{ℕ}
 use mathlib.Core.List.{List}
 use Rattle.boxes.specs.declared.Record.{Record}
 use Rattle.turn.specs.declared.Turn.{Turn}
-use Rattle.turn.specs.Pass.{kept, passAll}
+use Rattle.pass.specs.Pass.{kept, passAll}
 use Rattle.turns.specs.declared.Ran.{Ran}
 use Rattle.turns.specs.Turns.{Going, turnDef}
 

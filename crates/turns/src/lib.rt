@@ -17,7 +17,7 @@ fn one_turn(row: &mut [Record], store: &mut [u32], list: &[u8], c: Turn) -> Turn
 {
     let h = turn::take(store, list, c);
     let o = boxes::deliver_at(row, h.own, h);
-    turn::go_on(store, list, o, c)
+    pass::go_on(store, list, o, c)
 }
 
 // One loop for the list and for the drain: it goes on while the state says so.

@@ -1,8 +1,8 @@
--- `turn::look` meets its contract. Assumes nothing.
+-- `pass::look` meets its contract. Assumes nothing.
 use borrow.Author.Needs.{needs}
-use Rattle.turn.proofs.PassLaws.{look-none, look-drops, look-wakes, look-empty, look-behind}
-use Rattle.turn.proofs.look.Statement.{statement}
-use Rattle.turn.proofs.look.Tie as tie
+use Rattle.pass.proofs.Laws.{look-none, look-drops, look-wakes, look-empty, look-behind}
+use Rattle.pass.proofs.look.Statement.{statement}
+use Rattle.pass.proofs.look.Tie as tie
 
 mul-i : tie.Need-mul-i
 mul-i c = search needs

@@ -1,8 +1,8 @@
--- `turn::go_on` meets its contract. Assumes nothing.
+-- `pass::go_on` meets its contract. Assumes nothing.
 use borrow.Author.Needs.{needs}
-use Rattle.turn.proofs.PassLaws.{put-pairs, went-on}
-use Rattle.turn.proofs.go_on.Statement.{statement}
-use Rattle.turn.proofs.go_on.Tie as tie
+use Rattle.pass.proofs.Laws.{put-pairs, went-on}
+use Rattle.pass.proofs.go_on.Statement.{statement}
+use Rattle.pass.proofs.go_on.Tie as tie
 
 put-requires : tie.Need-put-requires
 put-requires c κs = search needs

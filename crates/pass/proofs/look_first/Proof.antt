@@ -1,8 +1,8 @@
--- `turn::look_first` meets its contract. Assumes nothing.
+-- `pass::look_first` meets its contract. Assumes nothing.
 use borrow.Author.Needs.{needs}
-use Rattle.turn.proofs.PassLaws.{first-listed, first-all, first-waits}
-use Rattle.turn.proofs.look_first.Statement.{statement}
-use Rattle.turn.proofs.look_first.Tie as tie
+use Rattle.pass.proofs.Laws.{first-listed, first-all, first-waits}
+use Rattle.pass.proofs.look_first.Statement.{statement}
+use Rattle.pass.proofs.look_first.Tie as tie
 
 mul-i : tie.Need-mul-i
 mul-i c = search needs

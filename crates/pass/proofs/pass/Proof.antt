@@ -1,14 +1,14 @@
--- `turn::pass` meets its contract: at each turn what is still to pass comes to what was to pass at first. Assumes nothing.
+-- `pass::pass` meets its contract: at each turn what is still to pass comes to what was to pass at first. Assumes nothing.
 use borrow.Author.Needs.{needs}
 use native.Mathlib.Omega.{arith}
 use Prim.Native.Nat.{_*_, _≤_}
 use mathlib.Core.Path.{_≡_, refl, sym, _∙_}
 use lib.ListN.{length}
 use borrow.Author.Tests.{not-true, not-false}
-use Rattle.turn.specs.Pass.{kept, passAll}
-use Rattle.turn.proofs.PassLaws.{left-less, pass-over, pass-ends, pass-goes-on}
-use Rattle.turn.proofs.pass.Statement.{statement}
-use Rattle.turn.proofs.pass.Tie as tie
+use Rattle.pass.specs.Pass.{kept, passAll}
+use Rattle.pass.proofs.Laws.{left-less, pass-over, pass-ends, pass-goes-on}
+use Rattle.pass.proofs.pass.Statement.{statement}
+use Rattle.pass.proofs.pass.Tie as tie
 
 abbrev Inv-loop : tie.InvT-loop
 Inv-loop store₀ list q₀ store q = (length store ≡ 9216) × ((q .pairs * 2 ≤ length list) × (passAll list (kept store q) ≡ passAll list (kept store₀ q₀)))

@@ -15,14 +15,14 @@ use Rattle.wires.specs.Words.{isList}
 use Rattle.wires.specs.Wires.{sixteen, queued, underWay, arrived, oldest, front, skipped}
 use Rattle.boxes.specs.declared.Departure.{Departure}
 use Rattle.mail.specs.Gather.{wireOf}
 use Rattle.turn.specs.declared.Turn.{Turn}
 use Rattle.turn.specs.declared.Pair.{Pair}
 use Rattle.turn.specs.declared.Receiver.{Receiver}
-use Rattle.turn.specs.declared.Glance.{Glance}
+use Rattle.pass.specs.declared.Glance.{Glance}
 use Rattle.turn.specs.Turn.{pairOf, nextPair, sleeps, quiet, begun, tookPair, Took, Put, nextTurn, putDef}
 use Rattle.turn.specs.Parts.{took, receiverFrom, receiverOf, quietTo, firstTo, deliveredTo, lessOf, leftAfter, atAfter, movedAfter}
-use Rattle.turn.specs.Pass.{Glanced, glanced, seenAs, glanceFirst, glanceTo, glancePair, kept, glanceAt, quietTurn, passOne, passTo, passAll}
+use Rattle.pass.specs.Pass.{Glanced, glanced, seenAs, glanceFirst, glanceTo, glancePair, kept, glanceAt, quietTurn, passOne, passTo, passAll}
 use Rattle.turn.proofs.Laws.{pick, delivered-is}
 
 -- ---- a look at a pair, and what the turn's definition takes for it
 

@@ -10,12 +10,12 @@ use Rattle.rules.specs.Sets.{word}
 use Rattle.wires.specs.Wires.{sixteen, queued, underWay, arrived, front, skipped}
 use Rattle.wires.specs.Words.{isList}
 use Rattle.mail.specs.Gather.{wireOf}
 use Rattle.turn.specs.declared.Turn.{Turn}
 use Rattle.turn.specs.declared.Pair.{Pair}
 use Rattle.turn.specs.declared.Receiver.{Receiver}
-use Rattle.turn.specs.declared.Glance.{Glance}
+use Rattle.pass.specs.declared.Glance.{Glance}
 use Rattle.turn.specs.Turn.{nextPair, Put}
 use Rattle.turn.specs.Parts.{receiverOf, lessOf, leftAfter, atAfter, movedAfter}
 
 -- ---- a look at a pair: the store after it, and what it shows
 

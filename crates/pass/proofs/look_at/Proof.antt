@@ -1,8 +1,8 @@
--- `turn::look_at` meets its contract. Assumes nothing.
+-- `pass::look_at` meets its contract. Assumes nothing.
 use borrow.Author.Needs.{needs}
-use Rattle.turn.proofs.PassLaws.{at-start, at-wire, at-none}
-use Rattle.turn.proofs.look_at.Statement.{statement}
-use Rattle.turn.proofs.look_at.Tie as tie
+use Rattle.pass.proofs.Laws.{at-start, at-wire, at-none}
+use Rattle.pass.proofs.look_at.Statement.{statement}
+use Rattle.pass.proofs.look_at.Tie as tie
 
 seen-requires : tie.Need-seen-requires
 seen-requires c κs = search needs
