@@ -20,45 +20,46 @@ pub struct Record {
     pub neighbors: [u16; 16],
 }
 
-// What has come for a box, gathered from the wires before its record is touched.
+// What has come for a box, gathered from the wires before its record is touched. Here and below the tables stand before the bools, so that they lie even
+// and are copied in whole words.
 pub struct Arrival {
     // the receiving box and its link set, and the box that the message came from
     pub own: usize,
     pub from: usize,
     pub links: u16,
+    // the origins whose lists are saved, after the round where there is one
+    pub listed: u16,
+    // the links whose queue holds a message after that
+    pub heard: u16,
+    // the sets at the heads, by link, and those lists, by origin
+    pub heads: [u16; 16],
+    pub lists: [u16; 16],
     // a message was taken off its wire
     pub moved: bool,
     // it starts first
     pub wakes: bool,
     // every link has a NOTSPT at its head: a round is done
     pub round: bool,
-    // the sets at the heads, by link
-    pub heads: [u16; 16],
-    // the origins whose lists are saved, after the round where there is one, and those lists, by origin
-    pub listed: u16,
-    pub lists: [u16; 16],
-    // the links whose queue holds a message after that
-    pub heard: u16,
 }
 
 // What goes out, with what the turn has to know of the arrival.
 pub struct Departure {
     pub own: usize,
     pub from: usize,
-    pub moved: bool,
     pub heard: u16,
-    // NOTSPT {own} goes out on every link first
-    pub wakes: bool,
-    // then, for each link, the lists and the set of the round
-    pub round: bool,
-    // the box has stopped: its queues are emptied
-    pub stops: bool,
     // the NOTSPT for each link
     pub sets: [u16; 16],
     // for each link, the origins whose lists go out on it, as a set
     pub origins: [u16; 16],
     // the lists, by origin, as known before this delivery's lists are saved
     pub neighbors: [u16; 16],
+    pub moved: bool,
+    // NOTSPT {own} goes out on every link first
+    pub wakes: bool,
+    // then, for each link, the lists and the set of the round
+    pub round: bool,
+    // the box has stopped: its queues are emptied
+    pub stops: bool,
 }
 
 pub struct Stepped {

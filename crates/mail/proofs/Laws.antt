@@ -23,19 +23,6 @@ use Rattle.mail.specs.Letter.{postLink}
 use Rattle.mail.specs.Gather.{Got, wireOf, listAt, takeList, takeLists, takeHead, hear, gatherLink}
 use Rattle.mail.specs.Gathered.{got}
 
--- ---- a choice, and a loop over the members of a set
-
-pub picked-yes : {A : Type 0} (b c : Bool) (x y z : A) → b ≡ c → b ≡ true → z ≡ x → z ≡ cond c x y
-picked-yes b c x y z e t h = rw (← e, t) h
-
-pub picked-no : {A : Type 0} (b c : Bool) (x y : A) → b ≡ c → b ≡ false → y ≡ cond c x y
-picked-no b c x y e f = rw (← e, f)
-
--- one turn more
-pub each-next : {A : Type 0} (s : ℕ) (f : ℕ → A → A) (k : ℕ) (a x r : A) → x ≡ forEach s f k a → r ≡ cond (mem k s) (f k x) x → r ≡ forEach s f (k + 1) a
-unfolding forEach
-each-next {A} s f k a x r e g = rw add-one (g ∙ ap (λ (z : A). cond (mem k s) (f k z) z) e)
-
 -- ---- what goes out
 
 pub post-yes : (s s′ : List ℕ) (i x n m : ℕ) (f ok : Bool) → Pushed sixteen s i x s′ ok → ok ≡ true → m ≡ (n + 1) % 4294967296

@@ -11,8 +11,8 @@ use lib.Dec.{eqb, ltb}
 use lib.ListN.{getD, set, replicate}
 use borrow.Author.Tests.{lt-ltb, le-ltb, eq-eqb, ne-eqb}
 use Rattle.rules.specs.Sets.{mem, without, word, least, any, forEach}
-use Rattle.sets.specs.Mem.{mem-empty}
-use Rattle.sets.specs.Loops.{least-le, least-hit, least-ok, any-in, any-out, by-bool, forEach-keeps}
+use Rattle.sets.specs.Mem.{mem-empty, or-neither}
+use Rattle.sets.specs.Loops.{any-in, any-out, by-bool, forEach-keeps, least-hit, least-is, least-le, least-none, least-ok}
 use Rattle.wires.specs.Words.{isList, originOf, setOf}
 use Rattle.wires.specs.Wires.{sixteen, queued, underWay, arrived, oldest, skipped, taken}
 use Rattle.boxes.specs.declared.Arrival.{Arrival}
@@ -24,7 +24,6 @@ use Rattle.mail.specs.Post.{Posted, postIf}
 use Rattle.mail.specs.Letter.{posted, postLink}
 use Rattle.mail.specs.Gather.{Got, gotNothing, wireOf, gatherTo, clearTo}
 use Rattle.mail.specs.Gathered.{got}
-use Rattle.mail.proofs.Laws.{picked-yes}
 use Rattle.turn.specs.declared.Turn.{Turn}
 use Rattle.turn.specs.declared.Pair.{Pair}
 use Rattle.turn.specs.declared.Receiver.{Receiver}
@@ -32,6 +31,9 @@ use Rattle.turn.specs.Turn.{searched, pairOf, nextPair, sleeps, quiet, h
 use Rattle.turn.specs.Parts.{took, receiverFrom, receiverOf, quietTo, oneListTo, gathered, roundTo, firstTo, deliveredTo, lessOf, leftAfter, atAfter, movedAfter}
 
 -- ---- choices
+
+picked-yes : {A : Type 0} (b c : Bool) (x y z : A) → b ≡ c → b ≡ true → z ≡ x → z ≡ cond c x y
+picked-yes b c x y z e t h = rw (← e, t) h
 
 pub picked-else : {A : Type 0} (b c : Bool) (x y z : A) → b ≡ c → b ≡ false → z ≡ y → z ≡ cond c x y
 picked-else b c x y z e f h = rw (← e, f) h
@@ -49,17 +51,6 @@ nobody = record { some = false; «from» = 0; to = 0 }
 -- the search's answer, once its sender is found
 fromSender : List ℕ → ℕ → Pair
 fromSender busy a = record { some = ltb a 16; «from» = cond (ltb a 16) a 0; to = cond (ltb a 16) (least 16 (λ b. mem b (word busy a))) 0 }
-
-least-is : (w : ℕ) (f : ℕ → Bool) (k : ℕ) → k < w → f k ≡ true → ((j : ℕ) → j < k → f j ≡ false) → least w f ≡ k
-least-is w f k l t none =
-    let hit = least-hit w f k l t in
-    let not-less : least w f < k → ⊥ = λ h. true≢false (sym (hit .1) ∙ none (least w f) h) in
-    omega (arith, hit .0, not-less)
-
-least-none : (w : ℕ) (f : ℕ → Bool) → ((j : ℕ) → j < w → f j ≡ false) → least w f ≡ w
-least-none w f none =
-    let not-less : least w f < w → ⊥ = λ h. true≢false (sym (least-ok w f h) ∙ none (least w f) h) in
-    omega (arith, least-le w f, not-less)
 
 any-none : (w : ℕ) (f : ℕ → Bool) → ((j : ℕ) → j < w → f j ≡ false) → any w f ≡ false
 any-none w f none = by-bool (any w f) (λ e. let (k, l, t) = any-out w f e in absurd (true≢false (sym t ∙ none k l))) (λ e. e)
@@ -84,8 +75,8 @@ pub search-found : (busy : List ℕ) (a b : ℕ) → a < 16 → b < 16 → Idle 
 unfolding searched fromSender
 search-found busy a b la lb idle before here =
     let f : ℕ → Bool = λ k. any 16 (λ t. mem t (word busy k)) in
-    let e : least 16 f ≡ a = least-is 16 f a la (any-in 16 (λ t. mem t (word busy a)) b lb here) (λ j lj. any-none 16 (λ t. mem t (word busy j)) (idle j lj)) in
-    let g : least 16 (λ t. mem t (word busy a)) ≡ b = least-is 16 (λ t. mem t (word busy a)) b lb here before in
+    let e : least 16 f ≡ a = least-is 16 f a la (λ j lj. any-none 16 (λ t. mem t (word busy j)) (idle j lj)) (any-in 16 (λ t. mem t (word busy a)) b lb here) in
+    let g : least 16 (λ t. mem t (word busy a)) ≡ b = least-is 16 (λ t. mem t (word busy a)) b lb before here in
     let t : ltb a 16 ≡ true = lt-ltb a 16 la in
     sym (ap (fromSender busy) e ∙ rw (t, g))
 
@@ -241,14 +232,10 @@ nothing-said : (i : ℕ) (l : Letter) (known : List ℕ) (p : Posted) → l .wak
 unfolding postLink postIf
 nothing-said i l known p w r = rw (r, w)
 
-neither : (x y : Bool) → x || y ≡ false → (x ≡ false) × (y ≡ false)
-neither true y e = absurd (true≢false e)
-neither false y e = (refl, e)
-
 pub nothing-goes : (o : Departure) (links : ℕ) (p : Posted) → o .wakes || o .round ≡ false → p ≡ postTo o links 16 p
 unfolding postTo
 nothing-goes o links p e =
-    let n = neither (o .wakes) (o .round) e in
+    let n = or-neither (o .wakes) (o .round) e in
     forEach-keeps links (λ j. postLink (wireOf (o .own % 16) j) (letter o j) (o .neighbors)) (λ k x. p ≡ x) 16 p refl
     (λ k x l m h. h ∙ sym (nothing-said (wireOf (o .own % 16) k) (letter o k) (o .neighbors) x (n .0) (n .1)))
     (λ k x l m h. h)

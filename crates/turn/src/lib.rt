@@ -27,10 +27,9 @@ pub struct Turn {
     pub left: usize,
     pub at: usize,
     pub pairs: usize,
-    // the counts, and whether a message found no room
+    // the counts
     pub sent: u32,
     pub moved: u32,
-    pub full: bool,
     // the boxes that are awake, and those that have stopped
     pub awake: u16,
     pub stopped: u16,
@@ -38,6 +37,8 @@ pub struct Turn {
     pub links: [u16; 16],
     pub heard: [u16; 16],
     pub busy: [u16; 16],
+    // a message found no room
+    pub full: bool,
 }
 
 // ---- the next pair
@@ -240,8 +241,7 @@ pub fn take(store: &mut [u32], list: &[u8], c: Turn) -> Arrival
     requires { ⌜ (length (now store) ≡ 9216) × (c .pairs * 2 ≤ length (now list)) ⌝ }
     ensures { λ h. ⌜ (h ≡ tookDef (now (list .entry)) (now (store .entry)) c .arrival) × ((now (store .exit) ≡ tookDef (now (list .entry)) (now (store .entry)) c .store) × (h .own < 16)) ⌝ }
 {
-    let busy = c.busy;
-    let p = next_pair(list, c.at, c.pairs, &busy);
+    let p = next_pair(list, c.at, c.pairs, &c.busy);
     take_pair(store, p, c)
 }
 

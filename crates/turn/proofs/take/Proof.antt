@@ -14,7 +14,7 @@ same-length : tie.Need-same-length
 same-length c = search needs
 
 returns : tie.Need-returns
-returns c = take-is (c .before .before .before .before .before .before .before .before .before .args .list .now) _ _ (c .before .before .before .before .before .before .before .before .before .args .c) _ _ (c .before .before .before .before .next-pair .ensures .0) (c .before .before .before .before .next-pair .ensures .1 .1) (c .before .before .take-pair .ensures)
+returns c = take-is (c .before .before .before .before .before .before .before .before .before .args .list .now) _ _ (c .before .before .before .before .before .before .before .before .before .args .t3) _ _ (c .before .before .before .before .next-pair .ensures .0) (c .before .before .before .before .next-pair .ensures .1 .1) (c .before .before .take-pair .ensures)
 
 pub take-spec : {M : Type 1} → statement M
 take-spec = tie.close (tie.spec next-pair-requires take-pair-requires same-length returns)
