@@ -100,10 +100,10 @@ fn pass(store: &mut [u32], list: &[u8], c: Turn) -> Turn
             return q;
         }
         q.heard[b] = k.heard;
-        q.busy[a] = turn::less_busy(store, k.moved, a, b, q.busy[a]);
-        q.moved = turn::moved_after(q.moved, k.moved);
-        q.left = turn::left_after(q.left, q.at, q.pairs, k.moved);
-        q.at = turn::at_after(q.at, q.pairs);
+        q.busy[a] = sends::less_busy(store, k.moved, a, b, q.busy[a]);
+        q.moved = sends::moved_after(q.moved, k.moved);
+        q.left = sends::left_after(q.left, q.at, q.pairs, k.moved);
+        q.at = sends::at_after(q.at, q.pairs);
     }
     q
 }
@@ -113,6 +113,6 @@ pub fn go_on(store: &mut [u32], list: &[u8], o: Departure, c: Turn) -> Turn
     requires { ⌜ (length (now store) ≡ 9216) × ((1 ≤ c .left) × (c .pairs * 2 ≤ length (now list))) ⌝ }
     ensures { λ r. ⌜ kept (now (store .exit)) r ≡ passAll (now (list .entry)) (putDef (now (store .entry)) o c) ⌝ }
 {
-    let n = turn::put(store, o, c);
+    let n = sends::put(store, o, c);
     pass(store, list, n)
 }

@@ -90,7 +90,7 @@ deliveredTo r a s =
     (firstTo r a (oldest sixteen s i) (arrived sixteen s i))
     (took (arrived sixteen s i) (quietTo r a true false (r .heard)))))
 
--- ---- what is carried on, as `nextTurn` has it
+-- ---- what is carried on, as `nextTurn` has it: crate sends
 
 -- of one sender, the receivers that it has messages under way to
 abbrev pub lessOf : List ℕ → Bool → ℕ → ℕ → ℕ → ℕ

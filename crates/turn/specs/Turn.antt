@@ -130,7 +130,7 @@ tookPair c p s =
 unfoldable pub tookDef : List ℕ → List ℕ → Turn → Took
 tookDef list s c = tookPair c (nextPair list c) s
 
--- ---- what the step sends, and what is carried on
+-- ---- what the step sends, and what is carried on: crate sends
 
 abbrev pub letter : Departure → ℕ → Letter
 letter o j = record { wakes = o .wakes; own = 2 ^ (o .own % 16); round = o .round; origins = word (o .origins) j; «set» = word (o .sets) j }

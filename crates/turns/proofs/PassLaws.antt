@@ -25,7 +25,8 @@ use Rattle.pass.specs.declared.Glance.{Glance}
 use Rattle.turn.specs.Turn.{searched, nextPair, quiet, tookPair, tookDef, Took, lessBusy, moreBusy, ends, Put, nextTurn, putDef}
 use Rattle.turn.specs.Parts.{took, receiverOf, quietTo}
 use Rattle.pass.specs.Pass.{Glanced, glancePair, kept, glanceAt, quietTurn, passOne, passTo, passAll}
-use Rattle.turn.proofs.Laws.{pick, nothing-goes, set-same, set-if}
+use Rattle.turn.proofs.Laws.{pick}
+use Rattle.sends.proofs.Laws.{nothing-goes, set-same, set-if}
 use Rattle.pass.proofs.Laws.{pair-took, pass-less, left-some}
 use Rattle.turns.specs.Turns.{Going, turnDef, turnsDef}
 use Rattle.turns.specs.Parts.{going, onDef}

@@ -1,9 +1,9 @@
--- `turn::stopped_after` meets its contract. Assumes nothing.
+-- `sends::stopped_after` meets its contract. Assumes nothing.
 use borrow.Author.Needs.{needs}
 use mathlib.Core.Path.{ap}
 use lib.Bits.{bitOr}
-use Rattle.turn.proofs.stopped_after.Statement.{statement}
-use Rattle.turn.proofs.stopped_after.Tie as tie
+use Rattle.sends.proofs.stopped_after.Statement.{statement}
+use Rattle.sends.proofs.stopped_after.Tie as tie
 
 only-requires : tie.Need-only-requires
 only-requires c κs = search needs

@@ -1,7 +1,7 @@
--- `turn::clear_ended` meets its contract. Assumes nothing.
+-- `sends::clear_ended` meets its contract. Assumes nothing.
 use borrow.Author.Needs.{needs}
-use Rattle.turn.proofs.clear_ended.Statement.{statement}
-use Rattle.turn.proofs.clear_ended.Tie as tie
+use Rattle.sends.proofs.clear_ended.Statement.{statement}
+use Rattle.sends.proofs.clear_ended.Tie as tie
 
 clear-all-requires : tie.Need-clear-all-requires
 clear-all-requires c κs = search needs

@@ -1,8 +1,8 @@
--- `turn::put` meets its contract: each part of the next turn's state is what the turn's definition has there. Assumes nothing.
+-- `sends::put` meets its contract: each part of the next turn's state is what the turn's definition has there. Assumes nothing.
 use borrow.Author.Needs.{needs}
-use Rattle.turn.proofs.Laws.{put-is}
-use Rattle.turn.proofs.put.Statement.{statement}
-use Rattle.turn.proofs.put.Tie as tie
+use Rattle.sends.proofs.Laws.{put-is}
+use Rattle.sends.proofs.put.Statement.{statement}
+use Rattle.sends.proofs.put.Tie as tie
 
 stopping-requires : tie.Need-stopping-requires
 stopping-requires c κs = search needs

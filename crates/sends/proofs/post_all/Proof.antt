@@ -1,9 +1,9 @@
--- `turn::post_all` meets its contract. Assumes nothing.
+-- `sends::post_all` meets its contract. Assumes nothing.
 use borrow.Author.Needs.{needs}
 use mathlib.Core.Path.{sym, _∙_}
-use Rattle.turn.proofs.Laws.{nothing-goes}
-use Rattle.turn.proofs.post_all.Statement.{statement}
-use Rattle.turn.proofs.post_all.Tie as tie
+use Rattle.sends.proofs.Laws.{nothing-goes}
+use Rattle.sends.proofs.post_all.Statement.{statement}
+use Rattle.sends.proofs.post_all.Tie as tie
 
 sends-requires : tie.Need-sends-requires
 sends-requires c κs = search needs

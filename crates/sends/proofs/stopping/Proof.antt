@@ -1,7 +1,7 @@
--- `turn::stopping` meets its contract. Assumes nothing.
+-- `sends::stopping` meets its contract. Assumes nothing.
 use borrow.Author.Needs.{needs}
-use Rattle.turn.proofs.stopping.Statement.{statement}
-use Rattle.turn.proofs.stopping.Tie as tie
+use Rattle.sends.proofs.stopping.Statement.{statement}
+use Rattle.sends.proofs.stopping.Tie as tie
 
 sends-requires : tie.Need-sends-requires
 sends-requires c κs = search needs

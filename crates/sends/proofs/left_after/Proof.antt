@@ -1,8 +1,8 @@
--- `turn::left_after` meets its contract. Assumes nothing.
+-- `sends::left_after` meets its contract. Assumes nothing.
 use borrow.Author.Needs.{needs}
 use borrow.Author.Tests.{lt-ltb, le-ltb}
-use Rattle.turn.proofs.left_after.Statement.{statement}
-use Rattle.turn.proofs.left_after.Tie as tie
+use Rattle.sends.proofs.left_after.Statement.{statement}
+use Rattle.sends.proofs.left_after.Tie as tie
 
 sub-result : tie.Need-sub-result
 sub-result c = search needs

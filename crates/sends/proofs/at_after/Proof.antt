@@ -1,8 +1,8 @@
--- `turn::at_after` meets its contract. Assumes nothing.
+-- `sends::at_after` meets its contract. Assumes nothing.
 use borrow.Author.Needs.{needs}
 use borrow.Author.Tests.{lt-ltb, le-ltb}
-use Rattle.turn.proofs.at_after.Statement.{statement}
-use Rattle.turn.proofs.at_after.Tie as tie
+use Rattle.sends.proofs.at_after.Statement.{statement}
+use Rattle.sends.proofs.at_after.Tie as tie
 
 add-result : tie.Need-add-result
 add-result c = search needs

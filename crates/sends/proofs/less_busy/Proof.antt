@@ -1,8 +1,8 @@
--- `turn::less_busy` meets its contract. Assumes nothing.
+-- `sends::less_busy` meets its contract. Assumes nothing.
 use borrow.Author.Needs.{needs}
-use Rattle.turn.proofs.Laws.{less-none, less-some}
-use Rattle.turn.proofs.less_busy.Statement.{statement}
-use Rattle.turn.proofs.less_busy.Tie as tie
+use Rattle.sends.proofs.Laws.{less-none, less-some}
+use Rattle.sends.proofs.less_busy.Statement.{statement}
+use Rattle.sends.proofs.less_busy.Tie as tie
 
 mul-under-way : tie.Need-mul-under-way
 mul-under-way c = search needs

@@ -1,14 +1,14 @@
--- `turn::post_each` meets its contract: at each turn all that goes to the links that remain is still to be posted. Assumes nothing.
+-- `sends::post_each` meets its contract: at each turn all that goes to the links that remain is still to be posted. Assumes nothing.
 use borrow.Author.Needs.{needs}
 use Prim.Native.Nat.{_<_}
 use mathlib.Core.Path.{_≡_, refl, _∙_}
 use lib.ListN.{length}
 use Rattle.sets.specs.Loops.{lowest-lt, rest-less, rest-small, rest-done, none-left}
 use Rattle.mail.specs.Letter.{posted}
 use Rattle.turn.specs.Turn.{postTo}
-use Rattle.turn.proofs.Laws.{letter-is}
-use Rattle.turn.proofs.post_each.Statement.{statement}
-use Rattle.turn.proofs.post_each.Tie as tie
+use Rattle.sends.proofs.Laws.{letter-is}
+use Rattle.sends.proofs.post_each.Statement.{statement}
+use Rattle.sends.proofs.post_each.Tie as tie
 
 abbrev Inv-loop : tie.InvT-loop
 Inv-loop store₀ links o b own known q₀ rest₀ store q rest = (rest < 65536) × ((length store ≡ 9216) × (postTo o rest 16 (posted store q) ≡ postTo o links 16 (posted store₀ q₀)))

@@ -1,7 +1,7 @@
--- `turn::moved_after` meets its contract. Assumes nothing.
+-- `sends::moved_after` meets its contract. Assumes nothing.
 use borrow.Author.Needs.{needs}
-use Rattle.turn.proofs.moved_after.Statement.{statement}
-use Rattle.turn.proofs.moved_after.Tie as tie
+use Rattle.sends.proofs.moved_after.Statement.{statement}
+use Rattle.sends.proofs.moved_after.Tie as tie
 
 wrapping-add-u32-requires : tie.Need-wrapping-add-u32-requires
 wrapping-add-u32-requires c κs = search needs

@@ -1,7 +1,7 @@
--- `turn::more_busy` meets its contract. Assumes nothing.
+-- `sends::more_busy` meets its contract. Assumes nothing.
 use borrow.Author.Needs.{needs}
-use Rattle.turn.proofs.more_busy.Statement.{statement}
-use Rattle.turn.proofs.more_busy.Tie as tie
+use Rattle.sends.proofs.more_busy.Statement.{statement}
+use Rattle.sends.proofs.more_busy.Tie as tie
 
 returns : tie.Need-returns
 returns c = rw (c .if1 .taken)

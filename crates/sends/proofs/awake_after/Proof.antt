@@ -1,10 +1,10 @@
--- `turn::awake_after` meets its contract. Assumes nothing.
+-- `sends::awake_after` meets its contract. Assumes nothing.
 use borrow.Author.Needs.{needs}
 use mathlib.Core.Path.{ap, _∙_}
 use lib.Bits.{bitOr}
 use Rattle.rules.specs.Sets.{without}
-use Rattle.turn.proofs.awake_after.Statement.{statement}
-use Rattle.turn.proofs.awake_after.Tie as tie
+use Rattle.sends.proofs.awake_after.Statement.{statement}
+use Rattle.sends.proofs.awake_after.Tie as tie
 
 only-requires : tie.Need-only-requires
 only-requires c κs = search needs
