@@ -4,7 +4,8 @@
 // owes (no NULL, no overlap).
 ghost use mathlib.Core.Path.{_≡_};
 ghost use Rattle.rules.specs.Calls.{readCall, writeCall, allowanceCall, runCall, drainCall};
-ghost use Rattle.sheet.specs.Answers.{readOf, writtenOf, allowedOf};
+ghost use Rattle.sheet.specs.Answers.{readOf, allowedOf};
+ghost use Rattle.writing.specs.Answers.{writtenOf};
 ghost use Rattle.hub.specs.Answers.{answerOf};
 ghost use Rattle.derowlas_c.specs.Answers.{Answers};
 
@@ -20,10 +21,10 @@ pub extern "C" fn derowlas_read(sheet: &[u8], table: &mut [u16]) -> sheet::Readi
 
 // Writes the sheet of N boxes and a link table to the start of a lent buffer; the rest stays. A refusal leaves the buffer as it was.
 #[no_mangle]
-pub extern "C" fn derowlas_write(boxes: u32, table: &[u16], buffer: &mut [u8]) -> sheet::Written
+pub extern "C" fn derowlas_write(boxes: u32, table: &[u16], buffer: &mut [u8]) -> writing::Written
     ensures { λ r. ⌜ writtenOf r (now (buffer .exit)) ≡ writeCall boxes (now (table .entry)) (now (buffer .entry)) ⌝ }
 {
-    sheet::write(boxes, table, buffer)
+    writing::write(boxes, table, buffer)
 }
 
 // The identities that a full broadcast sends, which planners use for line charges.

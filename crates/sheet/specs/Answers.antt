@@ -7,12 +7,11 @@ use lib.Dec.{eqb, ltb, leb}
 use lib.ListN.{replicate}
 use Rattle.rules.specs.Outcome.{Outcome, refused, accepted}
 use Rattle.rules.specs.Sheet.{Sheet, above, readSheet}
-use Rattle.rules.specs.Calls.{Read, Written as WrittenAnswer, Allowed as AllowedAnswer}
+use Rattle.rules.specs.Calls.{Read, Allowed as AllowedAnswer}
 use Rattle.sheet.specs.declared.Allowed.{Allowed}
 use Rattle.sheet.specs.declared.Pairs.{Pairs}
 use Rattle.sheet.specs.declared.Parsed.{Parsed}
 use Rattle.sheet.specs.declared.Reading.{Reading}
-use Rattle.sheet.specs.declared.Written.{Written}
 
 -- the number that the pair (c, d) is refused with after (a, b), 0 where it is not
 unfoldable pub pairNumber : ℕ → ℕ → ℕ → ℕ → ℕ → ℕ
@@ -58,9 +57,6 @@ pub record ParsedFrom (sheet : List ℕ) (r : Parsed) : Type 0 where
 
 abbrev pub readOf : Reading → List ℕ → Read
 readOf r table = record { number = r .number; boxes = r .boxes; links = r .links; table = table }
-
-abbrev pub writtenOf : Written → List ℕ → WrittenAnswer
-writtenOf r buffer = record { number = r .number; size = r .length; buffer = buffer }
 
 abbrev pub allowedOf : Allowed → AllowedAnswer
 allowedOf r = record { number = r .number; identities = r .identities }

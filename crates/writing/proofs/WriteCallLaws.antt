@@ -13,8 +13,8 @@ use Rattle.rules.specs.Sets.{all}
 use Rattle.rules.specs.Sheet.{linkBytes, linkCount, proper, sheetBytes, writeSheet}
 use Rattle.rules.specs.Calls.{Written, writeAnswer, writeCall}
 use Rattle.sets.specs.Stores.{sets-after, sets-front}
-use Rattle.sheet.specs.Writing.{linkProper}
-use Rattle.sheet.proofs.WriteLaws.{bytes-length}
+use Rattle.writing.specs.Writing.{linkProper}
+use Rattle.writing.proofs.WriteLaws.{bytes-length}
 
 -- two runs of stores from the buffer's start
 stored-both : (l t b : List ℕ) → length l + length t ≤ length b → sets (sets b 0 l) (length l) t ≡ (l ++ t) ++ drop (length (l ++ t)) b

@@ -5,8 +5,8 @@ use denote.Ref.{now}
 use borrow.Author.Tests.{lt-ltb, le-ltb, eq-eqb, ne-eqb, not-true, not-false}
 use borrow.Author.Needs.{needs}
 use Rattle.rules.specs.Sets.{mem, word}
-use Rattle.sheet.proofs.link_proper.Statement.{statement}
-use Rattle.sheet.proofs.link_proper.Tie as tie
+use Rattle.writing.proofs.link_proper.Statement.{statement}
+use Rattle.writing.proofs.link_proper.Tie as tie
 
 -- j is in the link set of i, and i in that of j
 here : (c : tie.Else1) → let a = c .before .before .before .args in mem (a .j) (word (now (a .t)) (a .i)) ≡ true

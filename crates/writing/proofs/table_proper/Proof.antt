@@ -7,10 +7,10 @@ use mathlib.Core.Bool.{true}
 use borrow.Author.Needs.{needs}
 use borrow.Author.Tests.{not-true, not-false}
 use Rattle.rules.specs.Sets.{all}
-use Rattle.sheet.specs.Writing.{linkProper}
-use Rattle.sheet.proofs.LoopLaws.{all-next, all-stop}
-use Rattle.sheet.proofs.table_proper.Statement.{statement}
-use Rattle.sheet.proofs.table_proper.Tie as tie
+use Rattle.writing.specs.Writing.{linkProper}
+use Rattle.writing.proofs.LoopLaws.{all-next, all-stop}
+use Rattle.writing.proofs.table_proper.Statement.{statement}
+use Rattle.writing.proofs.table_proper.Tie as tie
 
 abbrev Inv-loop : tie.InvT-loop
 Inv-loop n t i₀ i = (i ≤ 16) × (all i (λ r. all 16 (linkProper n t r)) ≡ true)

@@ -2,8 +2,8 @@
 use native.Mathlib.Nat.{add-zero}
 use mathlib.Core.Path.{refl, sym, _∙_}
 use borrow.Author.Needs.{needs}
-use Rattle.sheet.proofs.put_link.Statement.{statement}
-use Rattle.sheet.proofs.put_link.Tie as tie
+use Rattle.writing.proofs.put_link.Statement.{statement}
+use Rattle.writing.proofs.put_link.Tie as tie
 
 is-link-requires : tie.Need-is-link-requires
 is-link-requires c κs = search needs

@@ -1,8 +1,8 @@
 -- `is_link` meets its contract, from what `in_row` ensures. Assumes nothing.
 use borrow.Author.Tests.{lt-ltb, le-ltb}
 use borrow.Author.Needs.{needs}
-use Rattle.sheet.proofs.is_link.Statement.{statement}
-use Rattle.sheet.proofs.is_link.Tie as tie
+use Rattle.writing.proofs.is_link.Statement.{statement}
+use Rattle.writing.proofs.is_link.Tie as tie
 
 in-row-requires : tie.Need-in-row-requires
 in-row-requires c κs = search needs

@@ -5,8 +5,8 @@ use native.Mathlib.Numerals.{add-one}
 use mathlib.Core.Path.{_≡_}
 use lib.ListN.{length-set}
 use borrow.Author.Needs.{needs}
-use Rattle.sheet.proofs.put_trailer.Statement.{statement}
-use Rattle.sheet.proofs.put_trailer.Tie as tie
+use Rattle.writing.proofs.put_trailer.Statement.{statement}
+use Rattle.writing.proofs.put_trailer.Tie as tie
 
 mul-buffer : tie.Need-mul-buffer
 mul-buffer c = search needs

@@ -3,8 +3,8 @@ use native.Mathlib.Omega.{arith}
 use native.Mathlib.Numerals.{add-one}
 use lib.ListN.{length-set}
 use borrow.Author.Needs.{needs}
-use Rattle.sheet.proofs.put_pair.Statement.{statement}
-use Rattle.sheet.proofs.put_pair.Tie as tie
+use Rattle.writing.proofs.put_pair.Statement.{statement}
+use Rattle.writing.proofs.put_pair.Tie as tie
 
 cast-buffer : tie.Need-cast-buffer
 cast-buffer c = search needs

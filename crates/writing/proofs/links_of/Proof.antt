@@ -6,10 +6,10 @@ use mathlib.Core.Path.{_≡_, refl}
 use borrow.Author.Needs.{needs}
 use Rattle.rules.specs.Sets.{sum, count}
 use Rattle.rules.specs.Sheet.{linkCount}
-use Rattle.sheet.specs.Writing.{isLink}
-use Rattle.sheet.proofs.WriteLaws.{row-most, links-most}
-use Rattle.sheet.proofs.links_of.Statement.{statement}
-use Rattle.sheet.proofs.links_of.Tie as tie
+use Rattle.writing.specs.Writing.{isLink}
+use Rattle.writing.proofs.WriteLaws.{row-most, links-most}
+use Rattle.writing.proofs.links_of.Statement.{statement}
+use Rattle.writing.proofs.links_of.Tie as tie
 
 abbrev Inv-loop : tie.InvT-loop
 Inv-loop t k₀ i₀ k i = (i ≤ 16) × (k ≤ 16 * i) × (k ≡ sum i (λ r. count 16 (isLink t r)))

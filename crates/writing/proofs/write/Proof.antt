@@ -7,10 +7,10 @@ use mathlib.Core.List.{List}
 use denote.Ref.{now}
 use borrow.Author.Tests.{not-true, not-false}
 use borrow.Author.Needs.{needs}
-use Rattle.sheet.proofs.WriteLaws.{bytes-length}
-use Rattle.sheet.proofs.WriteCallLaws.{Writable, write-none, write-many, write-size, write-improper, write-no-room, write-done}
-use Rattle.sheet.proofs.write.Statement.{statement}
-use Rattle.sheet.proofs.write.Tie as tie
+use Rattle.writing.proofs.WriteLaws.{bytes-length}
+use Rattle.writing.proofs.WriteCallLaws.{Writable, write-none, write-many, write-size, write-improper, write-no-room, write-done}
+use Rattle.writing.proofs.write.Statement.{statement}
+use Rattle.writing.proofs.write.Tie as tie
 
 -- where the table is proper: its words, and what the tests before showed
 module _ (c : tie.Else4) where

@@ -11,7 +11,7 @@ use Rattle.rules.specs.Sets.{bit, count, sum, each}
 use Rattle.rules.specs.Sheet.{linkBytes, linkCount}
 use Rattle.sets.specs.Mem.{bit-le}
 use Rattle.sets.specs.Loops.{count-last, sum-mono}
-use Rattle.sheet.specs.Writing.{isLink, pairOf}
+use Rattle.writing.specs.Writing.{isLink, pairOf}
 
 module _ (t : List ℕ) where
   -- box i has at most as many higher neighbours as there are higher boxes

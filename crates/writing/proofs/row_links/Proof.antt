@@ -7,9 +7,9 @@ use mathlib.Core.Logic.{⊎-elim}
 use borrow.Author.Needs.{needs}
 use Rattle.rules.specs.Sets.{count}
 use Rattle.sets.specs.Loops.{count-last}
-use Rattle.sheet.specs.Writing.{isLink}
-use Rattle.sheet.proofs.row_links.Statement.{statement}
-use Rattle.sheet.proofs.row_links.Tie as tie
+use Rattle.writing.specs.Writing.{isLink}
+use Rattle.writing.proofs.row_links.Statement.{statement}
+use Rattle.writing.proofs.row_links.Tie as tie
 
 abbrev Inv-loop : tie.InvT-loop
 Inv-loop t i k₀ j₀ k j = (j ≤ 16) × (k ≤ j) × (k ≡ count j (isLink t i))
