@@ -11,11 +11,12 @@ use compare::{Chance, Hub};
 use std::hint::black_box;
 use std::time::Instant;
 
-const ROUNDS: usize = 41;
+const ROUNDS: usize = 401;
 
-/// The least time of one program in one round, so that the clock's own step
-/// does not count.
-const ROUND_NANOS: f64 = 2e6;
+/// The least time of one program in one round: long enough that the clock's
+/// own step does not count, and so short that the system interrupts few
+/// rounds, whatever else it has to do.
+const ROUND_NANOS: f64 = 2e5;
 
 /// A call, on which both programs must agree.
 enum Call {
