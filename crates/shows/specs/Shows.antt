@@ -1,7 +1,7 @@
 -- The code's row, store and turn beside the rules' hub, and that a turn which does what a settled box does shows the settled hub. Assumes nothing.
 use Prim.Native.Nat.{ℕ, zero, suc, _+_, _*_, _-_, _%_, _^_, _≤_, _<_}
 use mathlib.Core.Path.{_≡_, refl, sym, ap, ap₂, _∙_, subst, subst₂}
-use mathlib.Core.Bool.{Bool, true, false, not, cond, true≢false, false≢true, _&&_, _||_, and-true}
+use mathlib.Core.Bool.{Bool, true, false, not, cond, true≢false, false≢true, _&&_, _||_, and-true, and-false}
 use mathlib.Core.List.{List, [], _∷_, _++_, append-nil}
 use mathlib.Core.Logic.{_⊎_, inl, inr, ⊎-elim, _≢_}
 use native.Mathlib.Omega.{arith}
@@ -87,10 +87,6 @@ mem-add s b i = mem-or i s (2 ^ b) ∙ ap (λ (x : Bool). mem i s || x) (mem-one
 
 pub mem-less : (s b i : ℕ) → mem i (without s (2 ^ b)) ≡ mem i s && not (eqb i b)
 mem-less s b i = mem-without i s (2 ^ b) ∙ ap (λ (x : Bool). mem i s && not x) (mem-one i b)
-
-and-false : (x : Bool) → x && false ≡ false
-and-false true = refl
-and-false false = refl
 
 pub add-here : (s b : ℕ) → mem b (bitOr s (2 ^ b)) ≡ true
 add-here s b = mem-add s b b ∙ rw (eq-eqb b b refl) (or-true (mem b s))

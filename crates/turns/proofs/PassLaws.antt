@@ -2,8 +2,9 @@
 -- is the run. Assumes nothing.
 use Prim.Native.Nat.{ℕ, zero, suc, _-_, _%_, _^_, _<_, _≤_}
 use native.Mathlib.Omega.{arith}
+use native.Mathlib.Nat.{mod-eq-of-lt}
 use mathlib.Core.Path.{_≡_, refl, sym, ap, _∙_}
-use mathlib.Core.Bool.{Bool, true, false, _&&_, _||_}
+use mathlib.Core.Bool.{Bool, true, false, _&&_, _||_, and-false}
 use mathlib.Core.List.{List}
 use lib.Dec.{eqb, ltb}
 use lib.ListN.{getD, set}
@@ -42,10 +43,6 @@ module _ (r : Record) (h : Arrival) (w : h .wakes ≡ false) (o : h .round ≡ f
   unfolding settled
   quiet-record = ap (λ q. q .«record») quiet-settled ∙ ap recordOf (saved-none h (boxOf r) l) ∙ record-box r
 
-and-no : (x : Bool) → x && false ≡ false
-and-no true = refl
-and-no false = refl
-
 module _ (s : List ℕ) (o : Departure) (c : Turn) (p : Pair) (k : Glance) (w : o .wakes ≡ false) (r : o .round ≡ false) (eb : o .own % 16 ≡ p .to) (ea : o .«from» % 16 ≡ p .«from»)
     (em : o .moved ≡ k .moved) (eh : o .heard ≡ k .heard) where
   says-nothing : o .wakes || o .round ≡ false
@@ -53,7 +50,7 @@ module _ (s : List ℕ) (o : Departure) (c : Turn) (p : Pair) (k : Glance) (w : 
 
   ends-not : ends o ≡ false
   unfolding ends
-  ends-not = rw says-nothing (and-no (o .stops))
+  ends-not = rw says-nothing (and-false (o .stops))
 
   abbrev unsent : Posted
   unsent = record { store = s; sent = c .sent; full = c .full }
@@ -82,9 +79,6 @@ turnFrom row c k =
 turn-from : (list : List ℕ) (row : List Record) (s : List ℕ) (c : Turn) → turnDef list (going row s c) ≡ turnFrom row c (tookPair c (nextPair list c) s)
 unfolding turnDef turnFrom tookDef
 turn-from list row s c = refl
-
-small : (n : ℕ) → n < 16 → n % 16 ≡ n
-small n l = omega arith
 
 searched-below : (busy : List ℕ) → (searched busy .«from» < 16) × (searched busy .to < 16)
 unfolding searched
@@ -119,7 +113,7 @@ module _ (row : List Record) (c : Turn) (p : Pair) (s : List ℕ) (k : Glance) (
 
   goes : (r : Record) → putDef s (stepDef r come .out) c ≡ kept s (quietTurn c p k s)
   unfolding settled quietTo receiverOf
-  goes r = ap (λ (o : Departure). putDef s o c) (out r) ∙ quiet-put s (settled come noSets noSets (boxOf r) .out) c p k refl refl (small (p .to) lb) (small (p .«from») la) refl refl
+  goes r = ap (λ (o : Departure). putDef s o c) (out r) ∙ quiet-put s (settled come noSets noSets (boxOf r) .out) c p k refl refl (mod-eq-of-lt lb) (mod-eq-of-lt la) refl refl
 
   from-quiet : turnFrom row c (took s come) ≡ going row s (quietTurn c p k s)
   unfolding turnFrom
