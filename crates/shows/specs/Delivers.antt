@@ -38,7 +38,7 @@ use Rattle.turn.specs.declared.Turn.{Turn}
 use Rattle.turn.specs.Turn.{Took, sleeps as sleepsNow, quiet, oneList, roundOf, tookRound, tookFirst, delivered as deliveredNow, begun, heardAt, putDef, ends}
 use Rattle.turns.specs.Turns.{Going}
 use Rattle.shows.specs.Held.{wordsOf, heldOf, holdsBoth, Held, wire-lt, wire-other, length-words}
-use Rattle.shows.specs.Lists.{saved-more, saved-nothing, or-true, or-false}
+use Rattle.shows.specs.Lists.{saved-more, saved-nothing}
 use Rattle.shows.specs.Gathers.{AllSmall, set-word, list-word, All, gathered}
 use Rattle.shows.specs.Receives.{Leaves, nothing, withNeighbors, withList, calm-cases, calm-empty, calm-set, waits-behind, saves-list, waits-set, goes-on, comes-to-rest}
 use Rattle.shows.specs.Settles.{Alike, settled-queue, settled-way, settled-boxes, settled-sent, settled-moved, settled-full, both, twice}

@@ -1,7 +1,7 @@
 -- What the step makes of an arrival, as a desk to be settled: without a round, and with one. Assumes nothing.
 use Prim.Native.Nat.{ℕ, zero, suc, _+_, _*_, _%_, _^_, _≤_, _<_}
 use mathlib.Core.Path.{_≡_, refl, sym, ap, ap₂, _∙_, subst}
-use mathlib.Core.Bool.{Bool, true, false, not, cond, true≢false, false≢true, _&&_, _||_}
+use mathlib.Core.Bool.{Bool, true, false, not, cond, true≢false, false≢true, _&&_, _||_, or-true, or-false}
 use mathlib.Core.List.{List, [], _∷_, _++_, map}
 use mathlib.Core.Logic.{_⊎_, inl, inr, ⊎-elim, _≢_}
 use native.Mathlib.Omega.{arith}
@@ -122,10 +122,10 @@ module _ (t : List ℕ) (T : Table 16 t) (g : Going) (h : Hub) (S : Shows t g h)
       says = λ j hj v. says-still r k b n j hb (C .own) round v;
       mute = still-none;
       loud = λ e j v.
-          let w : k .wakes ≡ true = or-left (k .wakes) (sym (ap₂ _||_ (pass .wakes) (pass .round ∙ round)) ∙ e) in
+          let w : k .wakes ≡ true = sym (or-false (k .wakes)) ∙ sym (ap₂ _||_ (pass .wakes) (pass .round ∙ round)) ∙ e in
           ap some (ap (λ (x : Bool). cond x (startSends b n j) []) w ∙ start-sends b n j v);
       still = λ e j.
-          let w : k .wakes ≡ false = or-none (k .wakes) (sym (ap₂ _||_ (pass .wakes) (pass .round ∙ round)) ∙ e) in
+          let w : k .wakes ≡ false = sym (or-false (k .wakes)) ∙ sym (ap₂ _||_ (pass .wakes) (pass .round ∙ round)) ∙ e in
           ap (λ (x : Bool). cond x (startSends b n j) []) w;
       room = R;
       stops = λ e. let (x, w) = and-both (isStopped (woken r k)) (k .wakes) (sym (ends-still r k round) ∙ e) in saved-state k (woken r k) ∙ two _ x;
@@ -151,14 +151,6 @@ module _ (t : List ℕ) (T : Table 16 t) (g : Going) (h : Hub) (S : Shows t g h)
       moved = O .moves ∙ ap (λ (x : Bool). cond x (suc (h .moved)) (h .moved)) (sym (pass .moved));
       full = O .full;
     }
-      where
-        or-left : (x : Bool) → x || false ≡ true → x ≡ true
-        or-left true e = refl
-        or-left false e = e
-
-        or-none : (x : Bool) → x || false ≡ false → x ≡ false
-        or-none true e = e
-        or-none false e = refl
 
     pub still-rec : stepDef r k .«record» ≡ recordOf (stillDesk .box)
     still-rec = still-record r k round
@@ -193,7 +185,7 @@ module _ (t : List ℕ) (T : Table 16 t) (g : Going) (h : Hub) (S : Shows t g h)
       says = λ j hj v. says-round r k b n j hb hj (C .own) (C .links) round v;
       mute = round-none;
       loud = λ e j v. round-some j v;
-      still = λ e j. absurd (false≢true (sym e ∙ ap (λ (x : Bool). o .wakes || x) (pass .round ∙ round) ∙ or-yes (o .wakes)));
+      still = λ e j. absurd (false≢true (sym e ∙ ap (λ (x : Bool). o .wakes || x) (pass .round ∙ round) ∙ or-true (o .wakes)));
       room = R;
       stops = λ e. saved-state k (nextHop B) ∙ next-state B ∙ ap (λ (x : Bool). cond x 2 1) (sym (ends-round r k round) ∙ e);
       wakes = λ e f. saved-state k (nextHop B) ∙ next-state B ∙ ap (λ (x : Bool). cond x 2 1) (sym (ends-round r k round) ∙ e);
@@ -211,10 +203,6 @@ module _ (t : List ℕ) (T : Table 16 t) (g : Going) (h : Hub) (S : Shows t g h)
       moved = O .moves ∙ ap (λ (x : Bool). cond x (suc (h .moved)) (h .moved)) (sym (pass .moved));
       full = O .full;
     }
-      where
-        or-yes : (x : Bool) → x || true ≡ true
-        or-yes true = refl
-        or-yes false = refl
 
     pub round-rec : stepDef r k .«record» ≡ recordOf (roundDesk .box)
     round-rec = round-record r k round low

@@ -1,7 +1,7 @@
 -- What a turn gathers for a round is what the rules take from the queues: the set at each head, and the lists behind it. Assumes nothing.
 use Prim.Native.Nat.{ℕ, zero, suc, _+_, _*_, _%_, _/_, _^_, _≤_, _<_}
 use mathlib.Core.Path.{_≡_, refl, sym, ap, ap₂, _∙_, subst}
-use mathlib.Core.Bool.{Bool, true, false, cond, true≢false, _||_, _&&_}
+use mathlib.Core.Bool.{Bool, true, false, cond, true≢false, _||_, _&&_, or-true, or-false}
 use mathlib.Core.List.{List, [], _∷_, _++_, map}
 use mathlib.Core.Logic.{_⊎_, inl, inr, ⊎-elim, _≢_}
 use native.Mathlib.Omega.{arith}
@@ -25,7 +25,7 @@ use Rattle.wires.proofs.Laws.{queue-length, first-law, take-law, sixteen-proper
 use Rattle.boxes.specs.Step.{saveAll}
 use Rattle.mail.specs.Gather.{Got, gotNothing, wireOf, listAt, takeList, takeLists, takeHead, hear, gatherLink, gatherTo}
 use Rattle.shows.specs.Held.{wordsOf, heldOf, holdsBoth, Held, wire-lt, wire-other, length-words}
-use Rattle.shows.specs.Lists.{saved-more, saved-nothing, or-true, or-false}
+use Rattle.shows.specs.Lists.{saved-more, saved-nothing}
 
 -- ---- words of small messages
 

@@ -1,7 +1,7 @@
 -- Lists saved one after the other, and all at once: a table with its listed entries replaced. Assumes nothing.
 use Prim.Native.Nat.{ℕ, zero, suc, _+_, _^_, _≤_, _<_}
 use mathlib.Core.Path.{_≡_, refl, sym, ap, ap₂, _∙_}
-use mathlib.Core.Bool.{Bool, true, false, cond, true≢false, _||_}
+use mathlib.Core.Bool.{Bool, true, false, cond, true≢false, _||_, or-true, or-false}
 use mathlib.Core.List.{List, [], _∷_, _++_, map}
 use mathlib.Core.Logic.{_⊎_, inl, inr, ⊎-elim, _≢_}
 use native.Mathlib.Omega.{arith}
@@ -55,14 +55,6 @@ saved-nothing t lists e =
 
 mem-more : (listed k j : ℕ) → mem j (bitOr listed (2 ^ k)) ≡ mem j listed || eqb j k
 mem-more listed k j = mem-or j listed (2 ^ k) ∙ ap (λ (x : Bool). mem j listed || x) (mem-one j k)
-
-pub or-true : (x : Bool) → x || true ≡ true
-or-true true = refl
-or-true false = refl
-
-pub or-false : (x : Bool) → x || false ≡ x
-or-false true = refl
-or-false false = refl
 
 -- one list more is listed: its entry is set last
 pub saved-more : (t : List ℕ) (listed : ℕ) (lists : List ℕ) (k s : ℕ) → k < 16 → length t ≡ 16 → length lists ≡ 16

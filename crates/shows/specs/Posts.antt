@@ -28,7 +28,7 @@ pub record Sends (p : Posted) (h : Hub) : Type 0 where
   pub sent : p .sent ≡ h .sent % 4294967296
   pub full : p .full ≡ h .full
 
-next-count : (n : ℕ) → (n % 4294967296 + 1) % 4294967296 ≡ suc n % 4294967296
+pub next-count : (n : ℕ) → (n % 4294967296 + 1) % 4294967296 ≡ suc n % 4294967296
 next-count n = omega arith
 
 module _ (a b : ℕ) (ha : a < 16) (hb : b < 16) (m : Msg) (p : Posted) (h : Hub) (S : Sends p h) where

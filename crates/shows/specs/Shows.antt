@@ -1,7 +1,7 @@
 -- The code's row, store and turn beside the rules' hub, and that a turn which does what a settled box does shows the settled hub. Assumes nothing.
 use Prim.Native.Nat.{ℕ, zero, suc, _+_, _*_, _-_, _%_, _^_, _≤_, _<_}
 use mathlib.Core.Path.{_≡_, refl, sym, ap, ap₂, _∙_, subst, subst₂}
-use mathlib.Core.Bool.{Bool, true, false, not, cond, true≢false, false≢true, _&&_, _||_, and-true, and-false}
+use mathlib.Core.Bool.{Bool, true, false, not, cond, true≢false, false≢true, _&&_, _||_, and-true, and-false, or-true, or-false}
 use mathlib.Core.List.{List, [], _∷_, _++_, append-nil}
 use mathlib.Core.Logic.{_⊎_, inl, inr, ⊎-elim, _≢_}
 use native.Mathlib.Omega.{arith}
@@ -31,8 +31,7 @@ use Rattle.turn.specs.declared.Turn.{Turn}
 use Rattle.turn.specs.Turn.{Put, letter, postTo, lessBusy, moreBusy, ends, nextTurn, putDef}
 use Rattle.turns.specs.Turns.{Going}
 use Rattle.shows.specs.Held.{heldOf, Held, held-same}
-use Rattle.shows.specs.Lists.{or-true, or-false}
-use Rattle.shows.specs.Posts.{Sends, letterList}
+use Rattle.shows.specs.Posts.{Sends, letterList, next-count}
 use Rattle.shows.specs.Settles.{Alike, settled-queue, settled-way, settled-boxes, settled-sent, settled-moved, settled-full, posts-settled}
 
 -- a message waits
@@ -330,12 +329,9 @@ module _ (t : List ℕ) (T : Table 16 t) (g : Going) (h P : Hub) (D : Desk) (a b
     moved-is : cond (o .moved) ((c .moved + 1) % 4294967296) (c .moved) ≡ after .moved % 4294967296
     moved-is =
         by-bool (o .moved)
-        (λ e. rw e (ap (λ (n : ℕ). (n + 1) % 4294967296) (S .moved) ∙ next (h .moved) ∙ ap (λ (n : ℕ). n % 4294967296) (sym (settled-moved 16 b D P ∙ F .moved ∙ when e))))
+        (λ e. rw e (ap (λ (n : ℕ). (n + 1) % 4294967296) (S .moved) ∙ next-count (h .moved) ∙ ap (λ (n : ℕ). n % 4294967296) (sym (settled-moved 16 b D P ∙ F .moved ∙ when e))))
         (λ e. rw e (S .moved ∙ ap (λ (n : ℕ). n % 4294967296) (sym (settled-moved 16 b D P ∙ F .moved ∙ unless e))))
       where
-        next : (n : ℕ) → (n % 4294967296 + 1) % 4294967296 ≡ suc n % 4294967296
-        next n = omega arith
-
         when : o .moved ≡ true → cond (o .moved) (suc (h .moved)) (h .moved) ≡ suc (h .moved)
         when e = rw e
 

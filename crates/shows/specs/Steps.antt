@@ -1,7 +1,7 @@
 -- The step of the code in the words of a desk: what it sends to each link, and when it ends, without a round and with one. Assumes nothing.
 use Prim.Native.Nat.{ℕ, zero, suc, _+_, _%_, _^_, _≤_, _<_}
 use mathlib.Core.Path.{_≡_, refl, sym, ap, ap₂, _∙_}
-use mathlib.Core.Bool.{Bool, true, false, not, cond, true≢false, false≢true, _&&_, _||_}
+use mathlib.Core.Bool.{Bool, true, false, not, cond, true≢false, false≢true, _&&_, _||_, or-false}
 use mathlib.Core.List.{List, [], _∷_, _++_, map, append-nil}
 use native.Mathlib.Omega.{arith}
 use lib.Dec.{eqb, ltb}
@@ -43,11 +43,7 @@ module _ (r : Record) (k : Arrival) where
 
   pub ends-still : k .round ≡ false → ends o ≡ isStopped (woken r k) && k .wakes
   unfolding ends
-  ends-still e = ap₂ _&&_ (still-stops r k e) (ap₂ _||_ (passes r k .wakes) (passes r k .round ∙ e) ∙ or-no (k .wakes))
-    where
-      or-no : (x : Bool) → x || false ≡ x
-      or-no true = refl
-      or-no false = refl
+  ends-still e = ap₂ _&&_ (still-stops r k e) (ap₂ _||_ (passes r k .wakes) (passes r k .round ∙ e) ∙ or-false (k .wakes))
 
   pub ends-round : k .round ≡ true → ends o ≡ stops (taken k (woken r k))
   unfolding ends
