@@ -8,5 +8,6 @@ pub mod Routes
 pub mod Most
 pub mod Shown
 pub mod Starts
+pub mod Sheets
 pub mod Demands
 pub mod Idle

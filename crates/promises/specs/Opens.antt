@@ -49,7 +49,7 @@ pub record Behind (s board : List ℕ) (f : Sheet → Outcome Hub) : Type 0 wher
 module _ (s board : List ℕ) (f : Sheet → Outcome Hub) (some : (r : Sheet) → Numbered (f r)) where
   behind-hub : (r : Sheet) (p : Outcome Hub) → readSheet 16 s ≡ accepted r → f r ≡ p → Numbered p → (hubAnswer 16 (r .boxes) board p) .number ≡ 0 → Behind s board f
   unfolding hubAnswer onSheet
-  behind-hub r (refused n q) e d z u = absurd (z u)
+  behind-hub r (refused n q) e d z u = absurd (omega (arith, z .0))
   behind-hub r (accepted h) e d z u = record {
     sheet = r;
     hub = h;
@@ -60,7 +60,7 @@ module _ (s board : List ℕ) (f : Sheet → Outcome Hub) (some : (r : Sheet) �
 
   behind-sheet : (o : Outcome Sheet) → readSheet 16 s ≡ o → Numbered o → (onSheet 16 board f o) .number ≡ 0 → Behind s board f
   unfolding hubAnswer onSheet
-  behind-sheet (refused n q) e z u = absurd (z u)
+  behind-sheet (refused n q) e z u = absurd (omega (arith, z .0))
   behind-sheet (accepted r) e z u = behind-hub r (f r) e refl (some r) u
 
   pub behind : (onSheet 16 board f (readSheet 16 s)) .number ≡ 0 → Behind s board f

@@ -83,7 +83,7 @@ ends n k a b i part t h = short n k a b (drop i part) t (simp length-drop (omega
 module _ (q : Pairs) where
   pub was-accepted : (o : Outcome (List ℕ)) → Numbered o → q ≡ pairsAnswer o → q .number ≡ 0 → o ≡ accepted (q .table)
   unfolding pairsAnswer
-  was-accepted (refused k p) m e z = let y : k ≡ 0 = sym (ap (λ (x : Pairs). x .number) e) ∙ z in absurd (omega arith)
+  was-accepted (refused k p) m e z = let y : k ≡ 0 = sym (ap (λ (x : Pairs). x .number) e) ∙ z in absurd (omega (arith, m .0))
   was-accepted (accepted t) m e z = rw e
 
   pub was-refused : (o : Outcome (List ℕ)) → q ≡ pairsAnswer o → (q .number ≡ 0 → ⊥) → (p : ℕ) × (o ≡ refused (q .number) p)

@@ -116,7 +116,7 @@ module _ {s : List ℕ} {b p n v k : ℕ} (t : Trailer s b p n v) (ek : k ≡ tr
 back-accepted : (r : Parsed) (o : Outcome Sheet) → Numbered o → r ≡ parsedAnswer o → r .number ≡ 0
     → o ≡ accepted (record { boxes = r .boxes; links = r .links; table = r .table })
 unfolding parsedAnswer
-back-accepted r (refused k p) m e z = let y : k ≡ 0 = sym (ap (λ (x : Parsed). x .number) e) ∙ z in absurd (omega arith)
+back-accepted r (refused k p) m e z = let y : k ≡ 0 = sym (ap (λ (x : Parsed). x .number) e) ∙ z in absurd (omega (arith, m .0))
 back-accepted r (accepted q) m e z = rw e
 
 back-refused : (r : Parsed) (o : Outcome Sheet) → r ≡ parsedAnswer o → (r .number ≡ 0 → ⊥) → (p : ℕ) × (o ≡ refused (r .number) p)
