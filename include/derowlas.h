@@ -1,8 +1,8 @@
 /*
  * The Derowlas hub for C and C++ programs.
  *
- * Link with libderowlas_c.a, which `rt staticlib derowlas_c` writes to target/staticlib (x86-64 Linux). The library needs nothing else: no other
- * library, no memory of its own, no set-up.
+ * Link with libderowlas_c.a, which `rt staticlib derowlas_c` writes to target/staticlib (x86-64 Linux). The library needs memcpy and memset
+ * of the C library and nothing else: no memory of its own, no set-up.
  *
  * Words. A hub has N boxes, numbered 0 to N - 1. A set of boxes is a 16-bit number in which box k has the value 2^k. A link joins two different
  * boxes. A link table has DEROWLAS_TABLE_WORDS words: word k is the set of the boxes that box k has a link to, and is 0 from N on.
@@ -45,11 +45,11 @@ extern "C" {
 /* The longest sheet, 4 + 2 * DEROWLAS_LINKS bytes: a buffer of this size is never refused with 15. */
 #define DEROWLAS_SHEET_BYTES 244
 
-/* The stack that a call may take: a thread that calls has this much left. */
+/* The stack that a call may take: a thread that calls must have this much left. */
 #define DEROWLAS_STACK_BYTES 65536
 
 /*
- * `number` of an answer. The numbers 9, 10, 11 and 13 are of the calls on lists of deliveries.
+ * `number` of an answer. The numbers 9 and 11 are of derowlas_run alone, 10 and 13 of derowlas_run and derowlas_drain.
  * N, P, B and version are the bytes of a sheet's trailer, see derowlas_read.
  */
 enum derowlas_refusal {
@@ -66,7 +66,7 @@ enum derowlas_refusal {
   DEROWLAS_REFUSED_LIST_BOX = 10,    /* list or start set names a box of N or above */
   DEROWLAS_REFUSED_LIST_LINK = 11,   /* list names two different boxes without a link */
   DEROWLAS_REFUSED_ROOM = 12,        /* board below 66N words, or link table not 16 words */
-  DEROWLAS_REFUSED_WIRE_FULL = 13,   /* a message would be the 21st waiting on one wire and its receiving queue together */
+  DEROWLAS_REFUSED_WIRE_FULL = 13,   /* a message would be the 21st waiting on one wire and its receiving queue together: proved never to happen */
   DEROWLAS_REFUSED_TABLE = 14,       /* table to write: not 16 words, not the same both ways, a box linked to itself, or a box of N or above */
   DEROWLAS_REFUSED_BUFFER = 15       /* buffer to write is below 4 + 2P bytes */
 };
@@ -139,7 +139,17 @@ struct derowlas_allowed derowlas_allowance(const uint8_t *sheet, size_t sheet_le
 /* A budget that finishes the drain of every sheet. */
 #define DEROWLAS_BUDGET 4560
 
-/* The first word of a box's block on a board. */
+/* Where the parts of a box's block begin. */
+enum derowlas_word {
+  DEROWLAS_STATE = 0,
+  DEROWLAS_HOP = 1,
+  DEROWLAS_NODES = 2,
+  DEROWLAS_IN_SPT = 18,
+  DEROWLAS_NOT_SPT = 34,
+  DEROWLAS_NEIGHBORS = 50
+};
+
+/* The state of a box. */
 enum derowlas_state {
   DEROWLAS_ASLEEP = 0,
   DEROWLAS_AWAKE = 1,
@@ -162,9 +172,11 @@ struct derowlas_ran {
  * sheet, sheet_len: read, as derowlas_read reads it.
  * list, list_len: read.
  * board, board_len: its first DEROWLAS_BLOCK_WORDS * N words are written where the answer's number is 0; the words after them stay as they were.
- *   Word DEROWLAS_BLOCK_WORDS * i is the state of box i, and the next its HOP. Then come, 16 words each: Nodes, at d the set of the boxes at d hops;
- *   In_SPT, at k the set of the origins whose lists box i takes over its link from k; Not_SPT, at k those that k does not take from box i; and
- *   Neighbors, at k the links of box k. A sleeping box has zeros alone.
+ *   Word DEROWLAS_BLOCK_WORDS * i is the state of box i, and the next its HOP, the rounds that it has done, at most 17. Then come, 16 words each:
+ *   Nodes, at d the set of the boxes at d hops; In_SPT, at k the set of the origins whose lists box i takes over its link from k; Not_SPT, at k
+ *   those that k does not take from box i; and Neighbors, at k the links of box k. In_SPT and Not_SPT are 0 at a k that is no neighbour; a 0 in
+ *   Neighbors is also the set of a box without links. The tables of a stopped box are at rest; those of an awake one have what it knows so far. A
+ *   sleeping box has zeros alone.
  *
  * Refusals, the first that applies: those of derowlas_allowance; 9; then pair by pair 10, 11; 12 where board_len is below DEROWLAS_BLOCK_WORDS * N;
  * 13 as it happens.

@@ -79,6 +79,14 @@ echo 'refused 1 sheet' >"$made/refused"
 ask bin/routes "$made/nothing"
 check 'an empty file' prints "$made/refused"
 
+# ---- from where it is called
+
+ln -s "$PWD/bin/routes" "$made/link"
+ask "$made/link" samples/line.sheet
+check 'called by a link' prints samples/line.txt
+ask env CDPATH=/ bin/routes samples/line.sheet
+check 'with CDPATH in the environment' prints samples/line.txt
+
 # ---- wrong use
 
 for option in -h --help; do
@@ -105,6 +113,12 @@ ask bin/routes <samples
 check 'a folder as standard input' refuses_file "derowlas: standard input can't be read"
 ask bin/routes <&-
 check 'a standard input that is closed' refuses_file 'routes: standard input is closed'
+for what in samples/line.sheet --help; do
+  : >"$out"
+  bin/routes "$what" >/dev/full 2>"$err"
+  status=$?
+  check "an output that can't be written ($what)" refuses_file 'routes: the '
+done
 
 # ---- when the program is built: a project of its own, whose `rt` fails where there is a file `broken`, and finds no contents changed once it has built
 

@@ -90,13 +90,14 @@ static struct hub drain(size_t n, const uint8_t *sheet, size_t sheet_len, uint16
   return h;
 }
 
-/* Where a block has its tables: document 01, "The tables at rest". */
-enum { STATE = 0, HOP = 1, NODES = 2, IN_SPT = 18, NOT_SPT = 34, NEIGHBORS = 50 };
+/* Document 01, "The tables at rest": state, HOP, and the four tables of 16 words. */
+_Static_assert(DEROWLAS_STATE == 0 && DEROWLAS_HOP == 1 && DEROWLAS_NODES == 2, "where a block has its parts");
+_Static_assert(DEROWLAS_IN_SPT == 2 + 16 && DEROWLAS_NOT_SPT == 2 + 2 * 16 && DEROWLAS_NEIGHBORS == 2 + 3 * 16, "where a block has its tables");
 
 static uint16_t word(const struct hub *h, size_t box, size_t at) { return h->board[DEROWLAS_BLOCK_WORDS * box + at]; }
 
 static bool stopped(const struct hub *h, size_t box, uint16_t hop) {
-  return word(h, box, STATE) == DEROWLAS_STOPPED && word(h, box, HOP) == hop;
+  return word(h, box, DEROWLAS_STATE) == DEROWLAS_STOPPED && word(h, box, DEROWLAS_HOP) == hop;
 }
 
 /* ---- document 01, "Sample hubs" */
@@ -132,11 +133,11 @@ static void p3(void) {
 /* (p4) The same, block of box 1: Nodes 2, 5; In_SPT(0) 1, (2) 4; Not_SPT(0) 1, (2) 4; Neighbors 2, 5, 2. */
 static void p4(void) {
   const uint16_t block[DEROWLAS_BLOCK_WORDS] = {
-      [STATE] = DEROWLAS_STOPPED, [HOP] = 3,                                     /* (p3) */
-      [NODES] = 2,                [NODES + 1] = 5,                               /* at 0 hops, at 1 */
-      [IN_SPT] = 1,               [IN_SPT + 2] = 4,                              /* from 0, from 2 */
-      [NOT_SPT] = 1,              [NOT_SPT + 2] = 4,                             /* of 0, of 2 */
-      [NEIGHBORS] = 2,            [NEIGHBORS + 1] = 5,    [NEIGHBORS + 2] = 2,   /* of 0, 1, 2 */
+      [DEROWLAS_STATE] = DEROWLAS_STOPPED, [DEROWLAS_HOP] = 3, /* (p3) */
+      [DEROWLAS_NODES] = 2, [DEROWLAS_NODES + 1] = 5, /* at 0 hops, at 1 */
+      [DEROWLAS_IN_SPT] = 1, [DEROWLAS_IN_SPT + 2] = 4, /* from 0, from 2 */
+      [DEROWLAS_NOT_SPT] = 1, [DEROWLAS_NOT_SPT + 2] = 4, /* of 0, of 2 */
+      [DEROWLAS_NEIGHBORS] = 2, [DEROWLAS_NEIGHBORS + 1] = 5, [DEROWLAS_NEIGHBORS + 2] = 2, /* of 0, 1, 2 */
   };
   struct hub h = drain(3, line, sizeof line, 7, DEROWLAS_BUDGET);
   EXPECT(memcmp(h.board + DEROWLAS_BLOCK_WORDS, block, sizeof block) == 0);
@@ -164,9 +165,9 @@ static void p5(void) {
       came += h.moved - moved;
     moved = h.moved;
     if (came <= CAME) {
-      EXPECT(word(&h, 0, HOP) == hop[came] && word(&h, 0, NOT_SPT + 1) == heard[came]);
-      EXPECT(word(&h, 0, NEIGHBORS + 1) == list_1[came] && word(&h, 0, NEIGHBORS + 2) == list_2[came]);
-      EXPECT(word(&h, 0, STATE) == (came < CAME ? DEROWLAS_AWAKE : DEROWLAS_STOPPED));
+      EXPECT(word(&h, 0, DEROWLAS_HOP) == hop[came] && word(&h, 0, DEROWLAS_NOT_SPT + 1) == heard[came]);
+      EXPECT(word(&h, 0, DEROWLAS_NEIGHBORS + 1) == list_1[came] && word(&h, 0, DEROWLAS_NEIGHBORS + 2) == list_2[came]);
+      EXPECT(word(&h, 0, DEROWLAS_STATE) == (came < CAME ? DEROWLAS_AWAKE : DEROWLAS_STOPPED));
     }
   }
   EXPECT(came == CAME && moved == 24);
@@ -182,8 +183,8 @@ static void p6(void) {
 static void p7(void) {
   struct hub h = drain(4, ring, sizeof ring, 15, DEROWLAS_BUDGET);
   EXPECT(h.sent == 52 && h.finished);
-  EXPECT(word(&h, 0, IN_SPT + 1) == 10 && word(&h, 0, IN_SPT + 2) == 4);
-  EXPECT(word(&h, 0, NOT_SPT + 1) == 10 && word(&h, 0, NOT_SPT + 2) == 12);
+  EXPECT(word(&h, 0, DEROWLAS_IN_SPT + 1) == 10 && word(&h, 0, DEROWLAS_IN_SPT + 2) == 4);
+  EXPECT(word(&h, 0, DEROWLAS_NOT_SPT + 1) == 10 && word(&h, 0, DEROWLAS_NOT_SPT + 2) == 12);
 }
 
 /* (p8) Line 0-1-2, list (0,0) (0,1): sent 3, moved 1, under way 2. With (1,0) after: 4, 2, 2, HOP of box 0 is 1. */
@@ -193,7 +194,7 @@ static void p8(void) {
   EXPECT(h.sent == 3 && h.moved == 1 && h.under_way == 2);
   h = run(3, line, sizeof line, list, 6);
   EXPECT(h.sent == 4 && h.moved == 2 && h.under_way == 2);
-  EXPECT(word(&h, 0, HOP) == 1);
+  EXPECT(word(&h, 0, DEROWLAS_HOP) == 1);
 }
 
 /* (p9) Empty list: all asleep, and a sleeping box's block is all zero. So for a drain that starts none. */
@@ -210,7 +211,7 @@ static void p9(void) {
 static void budget_0(void) {
   struct hub h = drain(3, line, sizeof line, 1, 0);
   EXPECT(h.sent == 1 && h.moved == 0 && h.under_way == 1 && !h.finished);
-  EXPECT(word(&h, 0, STATE) == DEROWLAS_AWAKE && word(&h, 1, STATE) == DEROWLAS_ASLEEP);
+  EXPECT(word(&h, 0, DEROWLAS_STATE) == DEROWLAS_AWAKE && word(&h, 1, DEROWLAS_STATE) == DEROWLAS_ASLEEP);
 }
 
 /* "Starting a box that is not asleep, or an empty wire, changes nothing and counts nothing": the list of p8 with such pairs among its own. */

@@ -11,9 +11,9 @@
 #include <stdlib.h>
 #include <string.h>
 
-enum { STACK = 1 << 20, FILL = 0xa5, LIST = 60000 };
+enum { STACK = 1 << 20, FILL = 0xa5 };
 
-static uint8_t sheet[DEROWLAS_SHEET_BYTES], list[LIST];
+static uint8_t sheet[DEROWLAS_SHEET_BYTES], list[DEROWLAS_LIST_BYTES];
 static size_t sheet_len, list_len;
 static uint16_t table[DEROWLAS_TABLE_WORDS], board[DEROWLAS_BOARD_WORDS];
 static uint8_t buffer[DEROWLAS_SHEET_BYTES];
@@ -77,7 +77,7 @@ static void draw(enum shape shape) {
         links++;
       }
   memset(list, 0, 2);
-  for (list_len = 2; list_len + 4 <= LIST; list_len += 4) {
+  for (list_len = 2; list_len + 4 <= DEROWLAS_LIST_BYTES; list_len += 4) {
     const uint8_t *pair = sheet + (list_len - 2) / 4 % links * 2;
     list[list_len] = list[list_len + 3] = pair[0];
     list[list_len + 1] = list[list_len + 2] = pair[1];

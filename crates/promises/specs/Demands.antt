@@ -1,6 +1,6 @@
 -- The demands over the calls: for every sheet, list, start set, budget and lent board, what follows from the answer of a run or a drain. Each statement
 -- stands under the sentence of document 01 that it puts. The words are those of Said and Conditions, and of the rules. Assumes nothing.
-use Prim.Native.Nat.{ℕ, _+_, _*_, _≤_, _<_}
+use Prim.Native.Nat.{ℕ, suc, _+_, _*_, _≤_, _<_}
 use mathlib.Core.Path.{_≡_, refl, sym, ap, _∙_}
 use mathlib.Core.Bool.{true, false}
 use mathlib.Core.List.{List, _++_}
@@ -21,7 +21,7 @@ use Rattle.order.specs.Terms.{startsOf, handed, SetsOnly, Final}
 use Rattle.order.specs.Groups.{together-walk}
 use Rattle.order.specs.Promises
 use Rattle.sheet_laws.specs.Conditions.{None, N, P, Linked, sheetLines}
-use Rattle.sheet_laws.specs.LinksOf.{Names}
+use Rattle.sheet_laws.specs.LinksOf.{Joins}
 use Rattle.sheet_laws.specs.Numbers.{Counted}
 use Rattle.promises.specs.Said.{Call, listed, drained, answer, starting, tableOf, hubOf, Opened, blockAt, stateAt, hopAt, nodesAt, inAt, notAt, listAt, Leads, InStarted, SameGroups, Takes, Farthest}
 use Rattle.promises.specs.Conditions.{firstOf, secondOf, askLines, callLines, Cond13}
@@ -72,7 +72,7 @@ module _ (sheet : List ℕ) (call : Call) (lent : List ℕ) where
     behind = opened sheet call lent ok
 
     -- the table that the promises speak of has exactly the sheet's links
-    pub links : (i j : ℕ) → Linked t i j ↔ ((k : ℕ) × (k < P sheet) × Names sheet k i j)
+    pub links : (i j : ℕ) → Linked t i j ↔ ((k : ℕ) × (k < P sheet) × Joins sheet k i j)
     links i j = Tests.call-links sheet call lent ok i j
 
     -- "It makes two wires, one each way": E, which `enough` multiplies, is 2P
@@ -156,6 +156,10 @@ module _ (sheet : List ℕ) (call : Call) (lent : List ℕ) where
       ins j k hj =
           rw (Shown.rest-ins board t i block-rest j hj) (in-takes 16 t (behind .table) i j k hi hj)
 
+      -- "Nodes(16) and beyond are always empty": an origin that a link comes in for is in one of the sixteen sets
+      pub nodes-all : (j k : ℕ) → j < 16 → mem k (inAt i j board) ≡ true → (d : ℕ) × (d < 16) × (mem k (nodesAt i d board) ≡ true)
+      nodes-all j k hj m = let x = ins j k hj .0 m in group k .0 (suc (x .hops), x .far .walk)
+
       -- so exactly one link comes in for each origin, and none for the box itself
       pub one-in : (k : ℕ) → i ≢ k → Leads t i k
           → (j : ℕ) × (j < 16) × (mem k (inAt i j board) ≡ true) × ((l : ℕ) → l < 16 → mem k (inAt i l board) ≡ true → l ≡ j)
@@ -181,6 +185,16 @@ module _ (sheet : List ℕ) (call : Call) (lent : List ℕ) where
             Shown.rest-ins board t i block-rest j hj ∙ x,
             Shown.rest-nots board t i block-rest j hj ∙ y,
           )
+
+    -- the same by the far end's own tables, once that has stopped too: what is not in its In_SPT for this link
+    pub nots-far : (i j k : ℕ) → i < N sheet → j < N sheet → stateAt i board ≡ 2 → stateAt j board ≡ 2 → Linked t i j
+        → (mem k (notAt i j board) ≡ true) ↔ (Leads t i k × (mem k (inAt j i board) ≡ true → ⊥))
+    nots-far i j k hi hj si sj v =
+        let there = nots i hi si j k v in
+        let far = ins j hj sj i k (Shown.low sheet call lent behind i hi) in (
+          λ m. (there .0 m .0, λ x. there .0 m .1 (far .0 x)),
+          λ u. there .1 (u .0, λ x. u .1 (far .1 x)),
+        )
 
     -- ---- demand 3: order doesn't matter. The end: "none is under way"
 

@@ -18,7 +18,7 @@ use Rattle.sheet_laws.specs.Conditions.{Line, line, First, None, N, P, Linked, 
 use Rattle.sheet_laws.specs.Answers.{Tests, ltb-tests, leb-tests, eqb-tests, not-tests, or-tests, and-tests, Answers, accepted-answers, refuse-answers, then-answers, none-append, first-append}
 use Rattle.sheet_laws.specs.Refusals.{two-more, readSheet-answers}
 use Rattle.sheet_laws.specs.Accepted.{accepted-sheet, accepted-told}
-use Rattle.sheet_laws.specs.LinksOf.{Names, links-of}
+use Rattle.sheet_laws.specs.LinksOf.{Joins, links-of}
 use Rattle.sheet_laws.specs.Numbers.{numberOf, Numbered, numbered-append, sheet-numbered, Counted, counted}
 use Rattle.order.specs.Terms.{Reached, begin}
 use Rattle.order.specs.Reached.{checked-names, run-reached, starts-reached, drain-reached}
@@ -180,7 +180,7 @@ module _ (s : List ℕ) (call : Call) (board : List ℕ) (ok : (answer s call bo
   call-read : (r : Sheet) × (readSheet 16 s ≡ accepted r)
   call-read = readSheet-answers s 16 .accepts .1 (none-append (sheetLines 16 s) _ .0 (call-number s call board .zero-none .0 ok) .0)
 
-  pub call-links : (i j : ℕ) → Linked (tableOf s) i j ↔ ((k : ℕ) × (k < P s) × Names s k i j)
+  pub call-links : (i j : ℕ) → Linked (tableOf s) i j ↔ ((k : ℕ) × (k < P s) × Joins s k i j)
   call-links i j = let (r, e) = call-read in rw (table-read s r e) (links-of 16 s r e i j)
 
   pub call-wires : wireCount 16 (tableOf s) ≡ 2 * P s

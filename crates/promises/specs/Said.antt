@@ -1,6 +1,7 @@
 -- The words of the demands over the calls: what a reader of Demands has to know beside the rules. Definitions alone.
 -- A sheet and a list are bytes, a start set and a budget are numbers, a board is lent words; Calls of the rules says what comes out.
--- Of the crate order a reader needs `Names`, `startsOf`, `handed`, `SetsOnly` (Terms), of the crate sheet_laws `N`, `P` and the sheet's lines (Conditions).
+-- Of the crate order a reader needs `Names`, `asks`, `startsOf`, `tally`, `handed`, `SetsOnly` (Terms); of the crate sheet_laws `N`, `P` and the sheet's lines (Conditions)
+-- and `Joins` (LinksOf); of the crate calls `Untouched` (Refused).
 use Prim.Native.Nat.{ℕ, suc, _+_, _*_, _%_, _^_, _≤_, _<_}
 use mathlib.Core.Path.{_≡_}
 use mathlib.Core.Bool.{true}

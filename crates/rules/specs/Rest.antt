@@ -43,9 +43,6 @@ hops w t i k = least (w + 2) (λ d. mem k (within w t i d))
 unfoldable pub together : ℕ → List ℕ → ℕ → ℕ → Bool
 together w t i k = ltb (hops w t i k) w
 
-unfoldable pub group : ℕ → List ℕ → ℕ → ℕ
-group w t i = setOf w (together w t i)
-
 -- the boxes at d hops
 unfoldable pub layer : ℕ → List ℕ → ℕ → ℕ → ℕ
 layer w t i d = setOf w (λ k. eqb (hops w t i k) d)

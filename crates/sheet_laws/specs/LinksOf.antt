@@ -16,8 +16,8 @@ use Rattle.sheet_laws.specs.Links.{made-in, in-made}
 use Rattle.sheet_laws.specs.Accepted.{Accepted, accepted-sheet}
 
 -- pair k names the boxes i and j, in either order
-abbrev pub Names : List ℕ → ℕ → ℕ → ℕ → Type 0
-Names s k i j = ((first s k ≡ i) × (second s k ≡ j)) ⊎ ((first s k ≡ j) × (second s k ≡ i))
+abbrev pub Joins : List ℕ → ℕ → ℕ → ℕ → Type 0
+Joins s k i j = ((first s k ≡ i) × (second s k ≡ j)) ⊎ ((first s k ≡ j) × (second s k ≡ i))
 
 -- ---- an entry of a list of pairs stands at a place of its bytes
 
@@ -63,7 +63,7 @@ module _ (w : ℕ) (s : List ℕ) (r : Sheet) (a : Accepted w s r) where
   listed : (k : ℕ) → k < P s → In (pair (first s k) (second s k)) (a .list)
   listed k h = rw (bytes-first k h, bytes-second k h) at (flat-in (a .list) k (omega (arith, a .number)))
 
-  links : (i j : ℕ) → Linked (r .table) i j ↔ ((k : ℕ) × (k < P s) × Names s k i j)
+  links : (i j : ℕ) → Linked (r .table) i j ↔ ((k : ℕ) × (k < P s) × Joins s k i j)
   links i j =
       rw (a .answer) (
         (λ l.
@@ -77,5 +77,5 @@ module _ (w : ℕ) (s : List ℕ) (r : Sheet) (a : Accepted w s r) where
             ⊎-elim (λ e. rw (e .0, e .1) at x) (λ e. rw (e .0, e .1) at y) o,
       )
 
-pub links-of : (w : ℕ) (s : List ℕ) (r : Sheet) → readSheet w s ≡ accepted r → (i j : ℕ) → Linked (r .table) i j ↔ ((k : ℕ) × (k < P s) × Names s k i j)
+pub links-of : (w : ℕ) (s : List ℕ) (r : Sheet) → readSheet w s ≡ accepted r → (i j : ℕ) → Linked (r .table) i j ↔ ((k : ℕ) × (k < P s) × Joins s k i j)
 links-of w s r e = links w s r (accepted-sheet w s r e)

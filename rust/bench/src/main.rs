@@ -1,6 +1,6 @@
 //! Times whole calls of the proved library beside those of the independent
-//! program, interleaved in one process, and prints nanoseconds a message for
-//! both and their ratio.
+//! program, interleaved in one process, and prints nanoseconds a message, or a
+//! pair of a list, for both and their ratio.
 //!
 //! Bare times depend on the machine and on what else it does; the ratio much
 //! less.  A round times both programs one after the other on the same case,
@@ -40,8 +40,8 @@ impl Case {
         }
     }
 
-    /// A list of the greatest length in which most pairs do something: each
-    /// goes over a wire by chance.
+    /// A list of the greatest length, each pair over a wire by chance.  The hub
+    /// is soon at rest, so that most of its pairs find nothing to deliver.
     fn long_run(name: &'static str, hub: Hub) -> Case {
         let mut chance = Chance::new();
         let mut list = vec![0, 0];

@@ -49,6 +49,7 @@ impl Hub {
         }
         let before: Vec<usize> = (0..place.len()).map(|at| chance.below(at.max(1))).collect();
         let groups = 2 + chance.below(3);
+        let eighths = chance.below(9);
         let end = place.len() - 1;
         Hub::of(boxes, |low, high| {
             let (low, high) = (place[usize::from(low)], place[usize::from(high)]);
@@ -60,7 +61,7 @@ impl Hub {
                 3 => before[high] == low || chance.one_in(16),
                 4 => low % groups == high % groups && !chance.one_in(3),
                 5 => low + 1 == high || chance.one_in(12),
-                _ => chance.below(8) < shape,
+                _ => chance.below(8) < eighths,
             }
         })
     }

@@ -3,8 +3,8 @@
 use std::fmt;
 use std::io::{Write, stdout};
 
-/// A refusal that the calls can answer by document 01, and that no list was
-/// found to bring about.  Whoever reads a tally is told so.
+/// A refusal that document 01 has, and that is proved never to be given
+/// (`never-13`), so that no case meets it.  Whoever reads a tally is told so.
 const WIRE_FULL: u32 = 13;
 
 /// What a call answered, by number; 0 is acceptance.

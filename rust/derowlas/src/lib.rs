@@ -22,7 +22,7 @@
 //! refusal has changed nothing.  The calls are those of `libderowlas_c.a`,
 //! which `rt staticlib derowlas_c` writes; they are proved to answer as
 //! `crates/rules/specs/Calls.antt` defines.  They keep no state, and any
-//! thread may call them.
+//! thread may call them that has 64 KiB of stack left.
 
 #![deny(missing_docs, unsafe_code)]
 
@@ -80,7 +80,8 @@ pub const SHEET_BYTES: usize = 4 + 2 * LINKS;
 /// ```
 pub const BLOCK_WORDS: usize = 66;
 
-/// The words of a board that serves every hub.
+/// The words of a board that serves every hub.  A hub of N boxes fills the
+/// first [`BLOCK_WORDS`] * N of it, which are what [`Board::new`] is to be lent.
 ///
 /// ```
 /// let mut board = [0; derowlas::BOARD_WORDS];
@@ -370,7 +371,7 @@ pub fn drain(
     })
 }
 
-/// The Rust example of README.md, run as the examples above are.
+/// The Rust examples of README.md, run as the examples above are.
 #[cfg(doctest)]
 #[doc = include_str!("../../../README.md")]
 struct Readme;

@@ -60,7 +60,7 @@ pub enum Refusal {
     /// The board is below 66N words, or the link table is not of 16 words.
     Room = 12,
     /// A message would be the 21st waiting on one wire and its receiving queue
-    /// together.
+    /// together.  Proved never to happen; document 01 has the number.
     WireFull = 13,
     /// The table to write is not of 16 words, not the same both ways, links a
     /// box to itself, or names a box of N or above.

@@ -99,13 +99,6 @@ pub struct Hub<O: Observer = (), const LIMIT: usize = ROOM> {
     observer: O,
 }
 
-impl Hub {
-    /// A hub that nothing watches, every box asleep.
-    pub fn new(sheet: &Sheet) -> Hub {
-        Hub::watched(sheet, ())
-    }
-}
-
 impl<O: Observer> Hub<O> {
     /// A hub with an observer, every box asleep.
     pub fn watched(sheet: &Sheet, observer: O) -> Hub<O> {

@@ -81,7 +81,6 @@ fn every_order_up_to_three_boxes() {
             let (states, at_rest) = explore(&expected);
             // Rest is one state for each start set, whatever the order.
             assert_eq!(at_rest, 1 << boxes);
-            assert!(states >= at_rest);
             println!("boxes {boxes} links {links:?}: {states} states");
             sheets += 1;
         }
