@@ -1,3 +1,2 @@
-pub mod ListLaws
 pub mod HubLaws
 pub mod CallLaws

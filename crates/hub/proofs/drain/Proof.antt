@@ -6,16 +6,17 @@ use lib.ListN.{length}
 use lib.Seq.{length-take-le}
 use Rattle.rules.specs.Hub.{sleeping, run, drain}
 use Rattle.rules.specs.Calls.{hubAnswer, fitting}
-use Rattle.hub.proofs.CallLaws.{drain-sheet, drain-starts, drain-does, table-is, starts-facts}
+use Rattle.lists.proofs.RuleLaws.{starts-facts}
+use Rattle.hub.proofs.CallLaws.{drain-sheet, drain-starts, drain-does, table-is}
 use borrow.Author.Needs.{needs}
 use Rattle.hub.proofs.drain.Statement.{statement}
 use Rattle.hub.proofs.drain.Tie as tie
 use Rattle.hub.proofs.drain.Reads as reads
 use Rattle.hub.proofs.drain.Lts as lts
 use Rattle.hub.proofs.do_all.Reads as do-all-reads
-use Rattle.hub.proofs.past_boxes.Reads as past-boxes-reads
+use Rattle.lists.proofs.past_boxes.Reads as past-boxes-reads
 use Rattle.hub.proofs.refused.Reads as refused-reads
-use Rattle.hub.proofs.start_list.Reads as start-list-reads
+use Rattle.lists.proofs.start_list.Reads as start-list-reads
 use Rattle.sheet.proofs.parse.Reads as parse-reads
 
 -- src/lib.rt:174:9
@@ -64,7 +65,7 @@ do-all-requires c κs =
       c .before .before .before .before .before .before .before .before .parse .ensures .boxes-most,
       (
         omega (arith, c .before .before .before .start-list .ensures .1, length-take-le (c .before .before .before .start-list .result .len) (c .before .before .before .start-list .result .pairs) (omega (arith, c .before .before .before .start-list .ensures .1))),
-        (table-is (c .before .before .before .before .before .before .before .before .before .before .before .args .sheet .now) (c .before .before .before .before .before .before .before .before .parse .result) (c .before .before .before .before .before .before .before .before .parse .ensures) (c .before .before .before .before .before .before .before .before .before .before .before .args .board .now) (c .before .before .before .before .before .before .before .if1 .left), starts-facts (c .before .before .before .before .before .before .before .before .before .before .before .args .sheet .now) (c .before .before .before .before .before .before .before .before .parse .result) (c .before .before .before .before .before .before .before .before .parse .ensures) (c .before .before .before .before .before .before .before .before .before .before .before .args .board .now) (c .before .before .before .before .before .before .before .if1 .left) (c .before .before .before .before .before .before .before .before .before .before .before .args .starts) _ (c .before .before .before .start-list .ensures .0)),
+        (table-is (c .before .before .before .before .before .before .before .before .before .before .before .args .sheet .now) (c .before .before .before .before .before .before .before .before .parse .result) (c .before .before .before .before .before .before .before .before .parse .ensures) (c .before .before .before .before .before .before .before .before .before .before .before .args .board .now) (c .before .before .before .before .before .before .before .if1 .left), starts-facts _ _ _ (c .before .before .before .start-list .ensures .0)),
       ),
     )
 

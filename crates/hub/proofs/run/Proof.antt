@@ -1,12 +1,13 @@
 use mathlib.Core.Path.{sym, _∙_}
-use Rattle.hub.proofs.CallLaws.{run-sheet, run-list, run-short, run-names, run-does, table-is}
+use Rattle.lists.proofs.RuleLaws.{list-short, list-names}
+use Rattle.hub.proofs.CallLaws.{run-sheet, run-list, run-does, table-is}
 use borrow.Author.Needs.{needs}
 use Rattle.hub.proofs.run.Statement.{statement}
 use Rattle.hub.proofs.run.Tie as tie
 use Rattle.hub.proofs.run.Reads as reads
 use Rattle.hub.proofs.run.Lts as lts
 use Rattle.hub.proofs.do_all.Reads as do-all-reads
-use Rattle.hub.proofs.list_number.Reads as list-number-reads
+use Rattle.lists.proofs.list_number.Reads as list-number-reads
 use Rattle.hub.proofs.refused.Reads as refused-reads
 use Rattle.sheet.proofs.parse.Reads as parse-reads
 
@@ -40,8 +41,8 @@ do-all-requires c κs =
     let z = sym (c .before .before .list-number .ensures) ∙ c .before .if2 .left in (
       c .before .before .before .before .before .parse .ensures .boxes-most,
       (
-        run-short (c .before .before .before .before .before .before .before .before .before .args .sheet .now) (c .before .before .before .before .before .parse .result) (c .before .before .before .before .before .parse .ensures) (c .before .before .before .before .before .before .before .before .before .args .board .now) (c .before .before .before .before .if1 .left) (c .before .before .before .before .before .before .before .before .before .args .list .now) z,
-        (table-is (c .before .before .before .before .before .before .before .before .before .args .sheet .now) (c .before .before .before .before .before .parse .result) (c .before .before .before .before .before .parse .ensures) (c .before .before .before .before .before .before .before .before .before .args .board .now) (c .before .before .before .before .if1 .left), run-names (c .before .before .before .before .before .before .before .before .before .args .sheet .now) (c .before .before .before .before .before .parse .result) (c .before .before .before .before .before .parse .ensures) (c .before .before .before .before .before .before .before .before .before .args .board .now) (c .before .before .before .before .if1 .left) (c .before .before .before .before .before .before .before .before .before .args .list .now) z),
+        list-short _ _ _ z,
+        (table-is (c .before .before .before .before .before .before .before .before .before .args .sheet .now) (c .before .before .before .before .before .parse .result) (c .before .before .before .before .before .parse .ensures) (c .before .before .before .before .before .before .before .before .before .args .board .now) (c .before .before .before .before .if1 .left), list-names _ 16 _ _ (c .before .before .before .before .before .parse .ensures .boxes-most) z),
       ),
     )
 

@@ -1,12 +1,12 @@
 use mathlib.Core.Path.{_≡_, sym, _∙_}
 use native.Mathlib.Omega.{arith}
 use lib.ListN.{length}
-use Rattle.hub.proofs.ListLaws.{starts-yes, starts-no}
+use Rattle.lists.proofs.ListLaws.{starts-yes, starts-no}
 use borrow.Author.Needs.{needs}
-use Rattle.hub.proofs.add_start.Statement.{statement}
-use Rattle.hub.proofs.add_start.Tie as tie
-use Rattle.hub.proofs.add_start.Reads as reads
-use Rattle.hub.proofs.add_start.Lts as lts
+use Rattle.lists.proofs.add_start.Statement.{statement}
+use Rattle.lists.proofs.add_start.Tie as tie
+use Rattle.lists.proofs.add_start.Reads as reads
+use Rattle.lists.proofs.add_start.Lts as lts
 use Rattle.sets.proofs.is_in.Reads as is-in-reads
 
 -- src/lib.rt:92:8

@@ -1,10 +1,10 @@
 use mathlib.Core.Path.{sym, _∙_}
-use Rattle.hub.proofs.ListLaws.{high-first, high-second, a-start, a-link, no-link}
+use Rattle.lists.proofs.ListLaws.{high-first, high-second, a-start, a-link, no-link}
 use borrow.Author.Needs.{needs}
-use Rattle.hub.proofs.pair_number.Statement.{statement}
-use Rattle.hub.proofs.pair_number.Tie as tie
-use Rattle.hub.proofs.pair_number.Reads as reads
-use Rattle.hub.proofs.pair_number.Lts as lts
+use Rattle.lists.proofs.pair_number.Statement.{statement}
+use Rattle.lists.proofs.pair_number.Tie as tie
+use Rattle.lists.proofs.pair_number.Reads as reads
+use Rattle.lists.proofs.pair_number.Lts as lts
 use Rattle.sets.proofs.is_in.Reads as is-in-reads
 
 -- src/lib.rt:41:9

@@ -1,23 +1,17 @@
--- The list's check as one number is the check of the rules, and a set of starts is a list of pairs. Assumes nothing.
-use Prim.Native.Nat.{ℕ, zero, suc, _+_, _*_, _%_, _/_, _≤_, _<_}
-use mathlib.Core.Path.{_≡_, refl, sym, ap, ap₂, _∙_}
-use mathlib.Core.Bool.{Bool, true, false, not, _&&_, _||_, cond, true≢false, false≢true}
+-- The steps of the list's check, and of the list that a start set becomes. Assumes nothing.
+use Prim.Native.Nat.{ℕ, suc, _+_, _%_, _≤_, _<_}
+use mathlib.Core.Path.{_≡_, refl, sym, ap, _∙_}
+use mathlib.Core.Bool.{Bool, true, false, cond}
 use mathlib.Core.List.{List, [], _∷_, _++_, append-assoc, append-nil}
-use mathlib.Core.Logic.{_⊎_, inl, inr, ⊎-elim, _≢_}
+use mathlib.Core.Logic.{_≢_}
 use native.Mathlib.Omega.{arith}
-use native.Mathlib.Decide.{ℕ-discrete}
-use lib.Dec.{eqb, ltb, leb}
-use lib.ListN.{length, getD, drop, take, set, length-append, length-drop, length-set}
+use lib.Dec.{eqb}
+use lib.ListN.{length, getD, drop, take, set, length-drop, length-set}
 use lib.Seq.{drop-cons, take-suc-set}
-use borrow.Author.Tests.{le-leb, lt-leb, leb-true, leb-false, le-ltb, lt-ltb}
-use Rattle.rules.specs.Sets.{mem, word, each, forEach}
-use Rattle.rules.specs.Outcome.{Outcome, refused, accepted, refuse}
-use Rattle.rules.specs.Hub.{Hub, start, act, run, startAll}
-use Rattle.rules.specs.Calls.{checkPairs, longestList}
-use Rattle.sets.specs.Loops.{by-bool}
-use Rattle.sets.specs.Tables.{eqb-eq, eq-eqb, ne-eqb, eqb-ne}
-use Rattle.order.specs.Terms.{Names}
-use Rattle.hub.specs.Answers.{pairNumber, pairsNumber, listNumber, startPairs}
+use borrow.Author.Tests.{le-leb, lt-leb, le-ltb, lt-ltb}
+use Rattle.rules.specs.Sets.{mem, word, each}
+use Rattle.sets.specs.Tables.{eq-eqb, ne-eqb}
+use Rattle.lists.specs.Checks.{pairNumber, pairsNumber, listNumber, startPairs}
 
 -- ---- one pair
 
@@ -105,46 +99,3 @@ starts-none s = refl
 pub starts-more : (s i : ℕ) (l : List ℕ) → l ≡ startPairs i s → l ++ cond (mem i s) (i ∷ i ∷ []) [] ≡ startPairs (suc i) s
 unfolding startPairs each
 starts-more s i l e = ap (λ (k : List ℕ). k ++ cond (mem i s) (i ∷ i ∷ []) []) e
-
--- running them is starting each
-run-append : (n : ℕ) (w room : ℕ) (t l k : List ℕ) (h : Hub) → length l ≡ 2 * n → run w room t (l ++ k) h ≡ run w room t k (run w room t l h)
-unfolding run
-run-append n w room t [] k h e = refl
-run-append n w room t (a ∷ []) k h e = absurd (omega arith)
-run-append zero w room t (a ∷ b ∷ l) k h e = absurd (omega arith)
-run-append (suc n) w room t (a ∷ b ∷ l) k h e = run-append n w room t l k (act w room t a b h) (omega arith)
-
-starts-even : (s i : ℕ) → (n : ℕ) × (length (startPairs i s) ≡ 2 * n)
-unfolding startPairs each
-starts-even s zero = (0, refl)
-starts-even s (suc i) =
-    let (n, e) = starts-even s i in
-    by-bool (mem i s)
-    (λ m. (suc n, rw m (length-append (startPairs i s) (i ∷ i ∷ []) ∙ omega arith)))
-    (λ m. (n, rw m (length-append (startPairs i s) [] ∙ omega arith)))
-
-pub starts-run : (w room : ℕ) (t : List ℕ) (s i : ℕ) (h : Hub) → run w room t (startPairs i s) h ≡ forEach s (start w room t) i h
-unfolding startPairs each forEach run act
-starts-run w room t s zero h = refl
-starts-run w room t s (suc i) h =
-    let (n, e) = starts-even s i in
-    run-append n w room t (startPairs i s) (cond (mem i s) (i ∷ i ∷ []) []) h e
-    ∙ ap (run w room t (cond (mem i s) (i ∷ i ∷ []) [])) (starts-run w room t s i h)
-    ∙ by-bool (mem i s) (λ m. rw (m, eq-eqb i i refl)) (λ m. rw m)
-
-names-append : (n w : ℕ) (t l k : List ℕ) → length l ≡ 2 * n → Names w t l → Names w t k → Names w t (l ++ k)
-names-append n w t [] k e x y = y
-names-append n w t (a ∷ []) k e x y = absurd (omega arith)
-names-append zero w t (a ∷ b ∷ l) k e x y = absurd (omega arith)
-names-append (suc n) w t (a ∷ b ∷ l) k e x y = (x .0, x .1, names-append n w t l k (omega arith) (x .2) y)
-
-pub starts-names : (w : ℕ) (t : List ℕ) (s i : ℕ) → i ≤ w → Names w t (startPairs i s)
-unfolding startPairs each
-starts-names w t s zero h = tt
-starts-names w t s (suc i) h =
-    let (n, e) = starts-even s i in
-    names-append n w t (startPairs i s) (cond (mem i s) (i ∷ i ∷ []) []) e (starts-names w t s i (omega arith)) (one (mem i s))
-  where
-    one : (b : Bool) → Names w t (cond b (i ∷ i ∷ []) [])
-    one true = ((omega arith, omega arith), inl refl, tt)
-    one false = tt

@@ -4,13 +4,13 @@ use native.Mathlib.Omega.{arith}
 use native.Mathlib.Numerals.{add-one}
 use borrow.Author.Needs.{needs}
 use lib.ListN.{take}
-use Rattle.hub.specs.Answers.{startPairs}
-use Rattle.hub.proofs.ListLaws.{starts-none, starts-more}
-use Rattle.hub.proofs.start_list.Statement.{statement}
-use Rattle.hub.proofs.start_list.Tie as tie
-use Rattle.hub.proofs.start_list.Reads as reads
-use Rattle.hub.proofs.start_list.Lts as lts
-use Rattle.hub.proofs.add_start.Reads as add-start-reads
+use Rattle.lists.specs.Checks.{startPairs}
+use Rattle.lists.proofs.ListLaws.{starts-none, starts-more}
+use Rattle.lists.proofs.start_list.Statement.{statement}
+use Rattle.lists.proofs.start_list.Tie as tie
+use Rattle.lists.proofs.start_list.Reads as reads
+use Rattle.lists.proofs.start_list.Lts as lts
+use Rattle.lists.proofs.add_start.Reads as add-start-reads
 
 abbrev Inv-loop : tie.InvT-loop
 Inv-loop starts q₀ i₀ q i = (i ≤ 16) × (q .len ≤ 2 * i) × (take (q .len) (q .pairs) ≡ startPairs i starts)

@@ -4,13 +4,13 @@ use mathlib.Core.Logic.{_≢_}
 use native.Mathlib.Omega.{arith}
 use borrow.Author.Needs.{needs}
 use lib.ListN.{length, drop}
-use Rattle.hub.specs.Answers.{pairsNumber, pairNumber}
-use Rattle.hub.proofs.ListLaws.{pairs-end, pairs-more, pairs-refused, odd-list, long-list, fair-list}
-use Rattle.hub.proofs.list_number.Statement.{statement}
-use Rattle.hub.proofs.list_number.Tie as tie
-use Rattle.hub.proofs.list_number.Reads as reads
-use Rattle.hub.proofs.list_number.Lts as lts
-use Rattle.hub.proofs.pair_number.Reads as pair-number-reads
+use Rattle.lists.specs.Checks.{pairsNumber, pairNumber}
+use Rattle.lists.proofs.ListLaws.{pairs-end, pairs-more, pairs-refused, odd-list, long-list, fair-list}
+use Rattle.lists.proofs.list_number.Statement.{statement}
+use Rattle.lists.proofs.list_number.Tie as tie
+use Rattle.lists.proofs.list_number.Reads as reads
+use Rattle.lists.proofs.list_number.Lts as lts
+use Rattle.lists.proofs.pair_number.Reads as pair-number-reads
 use Rattle.sheet.proofs.byte_at.Reads as byte-at-reads
 
 abbrev Inv-loop : tie.InvT-loop
