@@ -1,11 +1,11 @@
--- `text::put_refusal` meets its contract: three parts, one after the other. Assumes nothing.
+-- `lines::put_refusal` meets its contract: three parts, one after the other. Assumes nothing.
 use native.Mathlib.Omega.{arith}
 use borrow.Author.Needs.{needs}
-use Rattle.text.specs.Text.{refusal}
-use Rattle.text.proofs.PutLaws.{put-then}
-use Rattle.text.proofs.TextLaws.{refusal-length}
-use Rattle.text.proofs.put_refusal.Statement.{statement}
-use Rattle.text.proofs.put_refusal.Tie as tie
+use Rattle.lines.specs.Lines.{refusal}
+use Rattle.lines.proofs.PutLaws.{put-then}
+use Rattle.lines.proofs.LineLaws.{refusal-length}
+use Rattle.lines.proofs.put_refusal.Statement.{statement}
+use Rattle.lines.proofs.put_refusal.Tie as tie
 
 slice-aggregate-put-bytes : tie.Need-slice-aggregate-put-bytes
 slice-aggregate-put-bytes c = search needs

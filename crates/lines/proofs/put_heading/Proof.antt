@@ -1,11 +1,11 @@
--- `text::put_heading` meets its contract: six parts, one after the other. Assumes nothing.
+-- `lines::put_heading` meets its contract: six parts, one after the other. Assumes nothing.
 use native.Mathlib.Omega.{arith}
 use borrow.Author.Needs.{needs}
-use Rattle.text.specs.Text.{heading}
-use Rattle.text.proofs.PutLaws.{put-then}
-use Rattle.text.proofs.TextLaws.{heading-length}
-use Rattle.text.proofs.put_heading.Statement.{statement}
-use Rattle.text.proofs.put_heading.Tie as tie
+use Rattle.lines.specs.Lines.{heading}
+use Rattle.lines.proofs.PutLaws.{put-then}
+use Rattle.lines.proofs.LineLaws.{heading-length}
+use Rattle.lines.proofs.put_heading.Statement.{statement}
+use Rattle.lines.proofs.put_heading.Tie as tie
 
 slice-aggregate-put-bytes : tie.Need-slice-aggregate-put-bytes
 slice-aggregate-put-bytes c = search needs
