@@ -4,7 +4,7 @@ use native.Mathlib.Omega.{arith}
 use native.Mathlib.Nat.{add-zero}
 use native.Mathlib.Numerals.{add-one}
 use mathlib.Core.Path.{_≡_, refl, sym}
-use mathlib.Core.List.{List, [], _∷_, _++_}
+use mathlib.Core.List.{List, [], _∷_, _++_, append-assoc}
 use lib.ListN.{length, length-append, set, take, getD}
 use lib.Seq.{length-sets, length-take-le, take-suc}
 use Rattle.rules.specs.Sets.{each}
@@ -25,6 +25,10 @@ module _ {b : List ℕ} {at : ℕ} {xs : List ℕ} {p : ℕ} {m : List ℕ} (h :
     next = omega (arith, h .next, g .next, length-append xs ys);
     holds = rw (g .holds, h .holds, h .next) (sets-after xs ys b at);
   }
+
+  -- two parts that were put at once
+  pub put-both : (ys zs : List ℕ) {q : ℕ} {a : List ℕ} → Put m p (ys ++ zs) q a → Put b at (xs ++ ys ++ zs) q a
+  put-both ys zs g = rw (append-assoc xs ys zs) (put-then g)
 
   pub put-byte : (v : ℕ) → Put b at (xs ++ (v ∷ [])) (p + 1) (set m p v)
   put-byte v = put-then (record { next = refl; holds = refl })

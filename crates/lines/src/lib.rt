@@ -1,5 +1,6 @@
 // The lines of the printing program's text, put into a lent buffer. Document 01, end of "Sample hubs".
 ghost use mathlib.Core.Path.{_≡_};
+ghost use mathlib.Core.List.{_++_};
 ghost use Rattle.lines.specs.Words.{wordOf, wordLine};
 ghost use Rattle.lines.specs.Lines.{field, heading, line, refusal};
 ghost use Rattle.lines.specs.Put.{Room, Put};
@@ -28,6 +29,15 @@ fn put_field(text: &mut [u8], at: usize, n: usize, end: u8) -> usize
     let to = put_bytes(text, at, &digits[..k]);
     text[to] = end;
     to + 1
+}
+
+// A word, a number in decimal, and what stands after it.
+fn put_named(text: &mut [u8], at: usize, word: &[u8], n: usize, end: u8) -> usize
+    requires { ⌜ Room (now text) at (now word ++ field n end) ⌝ }
+    ensures { λ r. ⌜ Put (now (text .entry)) at (now (word .entry) ++ field n end) r (now (text .exit)) ⌝ }
+{
+    let to = put_bytes(text, at, word);
+    put_field(text, to, n, end)
 }
 
 // What a refusal is about.
@@ -72,9 +82,8 @@ pub fn put_refusal(text: &mut [u8], at: usize, number: u32) -> usize
     requires { ⌜ Room (now text) at (refusal number) ⌝ }
     ensures { λ r. ⌜ Put (now (text .entry)) at (refusal number) r (now (text .exit)) ⌝ }
 {
-    let a = put_bytes(text, at, b"refused ");
-    let b = put_field(text, a, number as usize, b' ');
-    put_word(text, b, word_of(number))
+    let a = put_named(text, at, b"refused ", number as usize, b' ');
+    put_word(text, a, word_of(number))
 }
 
 // "The first line gives N, P and moved."
@@ -82,12 +91,9 @@ pub fn put_heading(text: &mut [u8], at: usize, boxes: usize, links: usize, moved
     requires { ⌜ Room (now text) at (heading boxes links moved) ⌝ }
     ensures { λ r. ⌜ Put (now (text .entry)) at (heading boxes links moved) r (now (text .exit)) ⌝ }
 {
-    let a = put_bytes(text, at, b"boxes ");
-    let b = put_field(text, a, boxes, b' ');
-    let c = put_bytes(text, b, b"links ");
-    let d = put_field(text, c, links, b' ');
-    let e = put_bytes(text, d, b"moved ");
-    put_field(text, e, moved as usize, b'\n')
+    let a = put_named(text, at, b"boxes ", boxes, b' ');
+    let b = put_named(text, a, b"links ", links, b' ');
+    put_named(text, b, b"moved ", moved as usize, b'\n')
 }
 
 // "Each later line is box, origin, hops, neighbour it comes from."

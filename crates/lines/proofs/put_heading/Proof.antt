@@ -1,58 +1,49 @@
--- `lines::put_heading` meets its contract: six parts, one after the other. Assumes nothing.
+-- `lines::put_heading` meets its contract: three parts, one after the other. Assumes nothing.
 use native.Mathlib.Omega.{arith}
 use borrow.Author.Needs.{needs}
-use Rattle.lines.specs.Lines.{heading}
-use Rattle.lines.proofs.PutLaws.{put-then}
+use Rattle.lines.specs.Lines.{field, linksWord, movedWord, heading}
+use Rattle.lines.proofs.PutLaws.{put-both}
 use Rattle.lines.proofs.LineLaws.{heading-length}
 use Rattle.lines.proofs.put_heading.Statement.{statement}
 use Rattle.lines.proofs.put_heading.Tie as tie
 
-slice-aggregate-put-bytes : tie.Need-slice-aggregate-put-bytes
-slice-aggregate-put-bytes c = search needs
+slice-aggregate-put-named : tie.Need-slice-aggregate-put-named
+slice-aggregate-put-named c = search needs
 
-put-bytes-requires : tie.Need-put-bytes-requires
-put-bytes-requires c κs = let a = c .before .before .before .args in omega (arith, heading-length (a .boxes) (a .links) (a .moved))
+put-named-requires : tie.Need-put-named-requires
+put-named-requires c κs = let a = c .before .before .before .args in omega (arith, heading-length (a .boxes) (a .links) (a .moved))
 
-put-field-requires : tie.Need-put-field-requires
-put-field-requires c κs = let a = c .before .before .before .before .before .before .before .args in omega (arith, heading-length (a .boxes) (a .links) (a .moved))
+slice-aggregate-put-named-2 : tie.Need-slice-aggregate-put-named-2
+slice-aggregate-put-named-2 c = search needs
 
-slice-aggregate-put-bytes-2 : tie.Need-slice-aggregate-put-bytes-2
-slice-aggregate-put-bytes-2 c = search needs
+put-named-requires-2 : tie.Need-put-named-requires-2
+put-named-requires-2 c κs = let a = c .before .before .before .before .before .before .before .before .args in omega (arith, heading-length (a .boxes) (a .links) (a .moved))
 
-put-bytes-requires-2 : tie.Need-put-bytes-requires-2
-put-bytes-requires-2 c κs = let a = c .before .before .before .before .before .before .before .before .before .before .before .before .args in omega (arith, heading-length (a .boxes) (a .links) (a .moved))
+slice-aggregate-put-named-3 : tie.Need-slice-aggregate-put-named-3
+slice-aggregate-put-named-3 c = search needs
 
-put-field-requires-2 : tie.Need-put-field-requires-2
-put-field-requires-2 c κs = let a = c .before .before .before .before .before .before .before .before .before .before .before .before .before .before .before .before .args in omega (arith, heading-length (a .boxes) (a .links) (a .moved))
-
-slice-aggregate-put-bytes-3 : tie.Need-slice-aggregate-put-bytes-3
-slice-aggregate-put-bytes-3 c = search needs
-
-put-bytes-requires-3 : tie.Need-put-bytes-requires-3
-put-bytes-requires-3 c κs = let a = c .before .before .before .before .before .before .before .before .before .before .before .before .before .before .before .before .before .before .before .before .before .args in omega (arith, heading-length (a .boxes) (a .links) (a .moved))
-
-put-field-requires-3 : tie.Need-put-field-requires-3
-put-field-requires-3 c κs = let a = c .before .before .before .before .before .before .before .before .before .before .before .before .before .before .before .before .before .before .before .before .before .before .before .before .before .args in omega (arith, heading-length (a .boxes) (a .links) (a .moved))
+put-named-requires-3 : tie.Need-put-named-requires-3
+put-named-requires-3 c κs = let a = c .before .before .before .before .before .before .before .before .before .before .before .before .before .args in omega (arith, heading-length (a .boxes) (a .links) (a .moved))
 
 same-length : tie.Need-same-length
 same-length c = search needs
 
 returns : tie.Need-returns
 unfolding heading
-returns c = put-then (put-then (put-then (put-then (put-then (c .before .before .before .before .before .before .before .before .before .before .before .before .before .before .before .before .before .before .before .before .before .before .before .before .put-bytes .ensures) (c .before .before .before .before .before .before .before .before .before .before .before .before .before .before .before .before .before .before .before .before .put-field .ensures)) (c .before .before .before .before .before .before .before .before .before .before .before .before .before .before .before .put-bytes2 .ensures)) (c .before .before .before .before .before .before .before .before .before .before .before .put-field2 .ensures)) (c .before .before .before .before .before .before .put-bytes3 .ensures)) (c .before .before .put-field3 .ensures)
+returns c =
+    let a = c .before .before .before .before .before .before .before .before .before .before .before .before .before .before .before .before .args in
+    let two = put-both (c .before .before .before .before .before .before .before .before .before .before .before .before .put-named .ensures) linksWord (field (a .links) 32) (c .before .before .before .before .before .before .before .put-named2 .ensures) in
+    put-both two movedWord (field (a .moved) 10) (c .before .before .put-named3 .ensures)
 
 pub put-heading-spec : {M : Type 1} → statement M
 put-heading-spec =
     tie.close
     (tie.spec
-    slice-aggregate-put-bytes
-    put-bytes-requires
-    put-field-requires
-    slice-aggregate-put-bytes-2
-    put-bytes-requires-2
-    put-field-requires-2
-    slice-aggregate-put-bytes-3
-    put-bytes-requires-3
-    put-field-requires-3
+    slice-aggregate-put-named
+    put-named-requires
+    slice-aggregate-put-named-2
+    put-named-requires-2
+    slice-aggregate-put-named-3
+    put-named-requires-3
     same-length
     returns)
