@@ -1,13 +1,12 @@
--- How many bytes the parts of the text have, the line of a route, and the whole text. Assumes nothing.
+-- The line of a route, how many bytes the routes have, and the whole text. Assumes nothing.
 use Prim.Native.Nat.{ℕ, zero, suc, _+_, _-_, _*_, _^_, _≤_, _<_}
 use native.Mathlib.Omega.{arith}
 use native.Mathlib.Nat.{suc-mul}
-use mathlib.Core.Path.{_≡_, refl, sym, ap, _∙_}
-use mathlib.Core.List.{List, [], _∷_, _++_}
+use mathlib.Core.Path.{_≡_, refl, ap, _∙_}
+use mathlib.Core.List.{List, [], _++_}
 use borrow.Author.Tests.{lt-ltb, le-ltb, eq-eqb, ne-eqb}
 use lib.Dec.{eqb, ltb}
-use lib.ListN.{length, length-append, take, replicate}
-use lib.Seq.{length-take-le}
+use lib.ListN.{length, length-append, replicate}
 use Rattle.rules.specs.Sets.{mem, word, each}
 use Rattle.sets.specs.Loops.{by-bool, least-le}
 use Rattle.rules.specs.Outcome.{Outcome, refused, accepted}
@@ -17,31 +16,9 @@ use Rattle.sheet.specs.Answers.{parsedAnswer, ParsedFrom}
 use Rattle.sheet.specs.declared.Parsed.{Parsed}
 use Rattle.hub.specs.Answers.{answerOf}
 use Rattle.hub.specs.declared.Answer.{Answer}
-use Rattle.text.specs.declared.Word.{Word}
-use Rattle.text.specs.declared.Word.the-variants as words
-use Rattle.text.specs.Words.{wordOf, wordLine}
-use Rattle.text.specs.Put.{Put}
-use Rattle.text.specs.Text.{decimal, field, heading, line, refusal, firstWith, nodesAt, inSptAt, route, routes, boxesOf, linksOf, answered, printed, printedIn}
-use Rattle.text.proofs.PutLaws.{put-length}
-use Rattle.text.proofs.NumberLaws.{field-any, field-most}
-
--- ---- how many bytes the parts have
-
-pub field-length : (n end : ℕ) → length (field n end) ≡ length (decimal n) + 1
-unfolding field
-field-length n end = length-append (decimal n) (end ∷ [])
-
-pub line-length : (i j hops from : ℕ) → length (line i j hops from) ≡ length (field i 32) + (length (field j 32) + (length (field hops 32) + length (field from 10)))
-unfolding line
-line-length i j hops from = simp length-append (omega arith)
-
-pub heading-length : (n p moved : ℕ) → length (heading n p moved) ≡ 18 + (length (field n 32) + (length (field p 32) + length (field moved 10)))
-unfolding heading
-heading-length n p moved = simp length-append (omega arith)
-
-pub refusal-length : (number : ℕ) → length (refusal number) ≡ 8 + (length (field number 32) + length (wordLine (wordOf number)))
-unfolding refusal
-refusal-length number = simp length-append (omega arith)
+use Rattle.lines.specs.Lines.{heading, line, refusal}
+use Rattle.lines.proofs.LineLaws.{line-most}
+use Rattle.text.specs.Text.{firstWith, nodesAt, inSptAt, route, routes, boxesOf, linksOf, answered, printed, printedIn}
 
 -- ---- the line of a route
 
@@ -67,13 +44,6 @@ each-most zero m f h = omega arith
 each-most (suc n) m f h =
     rw (suc-mul n m) (omega (arith, length-append (each n f) (f n), each-most n m f (λ k l. h k (omega arith)), h n (omega arith)))
 
-small : (n end : ℕ) → n ≤ 16 → length (field n end) ≤ 3
-small n end h = field-most n 1 end (omega arith) (omega arith)
-
-line-most : (i j hops from : ℕ) → i < 16 → j < 16 → hops ≤ 16 → from ≤ 16 → length (line i j hops from) ≤ 12
-line-most i j hops from a b c d =
-    omega (arith, line-length i j hops from, small i 32 (omega arith), small j 32 (omega arith), small hops 32 c, small from 10 d)
-
 first-most : (board : List ℕ) (at j : ℕ) → firstWith board at j ≤ 16
 unfolding firstWith
 first-most board at j = least-le 16 (λ k. mem j (word board (at + k)))
@@ -90,19 +60,6 @@ pub routes-most : (board : List ℕ) (n : ℕ) → n ≤ 16 → length (routes b
 unfolding routes
 routes-most board n h =
     omega (arith, each-most n 192 (λ i. each n (route board i)) (λ i l. omega (arith, each-most n 12 (route board i) (λ j k. route-most board i j (omega arith) (omega arith)))))
-
-word-most : (w : Word) → length (wordLine w) ≤ 6
-word-most words.Sheet = omega arith
-word-most words.Pair = omega arith
-word-most words.List = omega arith
-word-most words.Room = omega arith
-word-most words.Nothing = omega arith
-
-pub refusal-most : (number : ℕ) → length (refusal number) ≤ 36
-refusal-most number = omega (arith, refusal-length number, field-any number 32, word-most (wordOf number))
-
-pub heading-most : (n p moved : ℕ) → length (heading n p moved) ≤ 84
-heading-most n p moved = omega (arith, heading-length n p moved, field-any n 32, field-any p 32, field-any moved 10)
 
 -- ---- the whole text
 
@@ -141,9 +98,3 @@ module _ (sheet : List ℕ) (p : Parsed) (read : ParsedFrom sheet p) (s : ℕ) (
   pub text-done : a .number ≡ 0 → printed sheet ≡ heading (p .boxes) (p .links) (a .moved) ++ routes board (p .boxes)
   unfolding answered
   text-done h = text-is ∙ rw (eq-eqb (a .number) 0 h)
-
--- the place after bytes that were put at the start counts bytes of the text
-pub put-counts : {b : List ℕ} {bytes : List ℕ} {p : ℕ} {m : List ℕ} → Put b 0 bytes p m → length bytes ≤ length b → (p ≤ length m) × (p ≡ length (take p m))
-put-counts {b} {bytes} {p} {m} h r =
-    let l : p ≤ length m = omega (arith, h .next, put-length h) in
-    (l, sym (length-take-le p m l))

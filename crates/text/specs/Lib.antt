@@ -1,5 +1,3 @@
-pub mod Words
 pub mod Text
-pub mod Put
 pub mod Sample
 pub mod Kept

@@ -8,7 +8,8 @@ use Rattle.rules.specs.Sheet.{link, above, pairs, pairBytes, readSheet}
 use Rattle.rules.specs.Box.{started, startSends, lists, behind, saveLists, saveHeads, save, isSet, headSet, tail, allSets, takeSet, takeSets, before, roundSends, stops, nextHop, round, work, receive}
 use Rattle.rules.specs.Hub.{send, sendList, sendAll, settle, start, popped, handOver, deliver, act, run, underWay, holds, sender, receiver, drain, startAll, block, boardOf}
 use Rattle.rules.specs.Calls.{hubAnswer, fitting, draining, onSheet, drainCall}
-use Rattle.text.specs.Text.{decimal, field, heading, line, refusal, firstWith, route, routes, boxesOf, linksOf, answered, printed}
+use Rattle.lines.specs.Lines.{decimal, field, heading, line, refusal}
+use Rattle.text.specs.Text.{firstWith, route, routes, boxesOf, linksOf, answered, printed}
 
 pub record Row : Type 0 where
   pub sheet : List ℕ

@@ -3,106 +3,8 @@ ghost use mathlib.Core.Path.{_≡_};
 ghost use Prim.Native.Nat.{_+_, _-_, _*_, _^_, _<_, _≤_};
 ghost use lib.ListN.{length, take};
 ghost use Rattle.rules.specs.Sets.{each};
-ghost use Rattle.text.specs.Words.{wordOf, wordLine};
-ghost use Rattle.text.specs.Text.{field, heading, line, refusal, firstWith, route, routes, printedIn};
-ghost use Rattle.text.specs.Put.{Room, Put};
-
-// ---- bytes, words and numbers
-
-// The bytes of s, from the place `at` on. The answer is the place after them.
-fn put_bytes(text: &mut [u8], at: usize, s: &[u8]) -> usize
-    requires { ⌜ Room (now text) at (now s) ⌝ }
-    ensures { λ r. ⌜ Put (now (text .entry)) at (now (s .entry)) r (now (text .exit)) ⌝ }
-{
-    let n = s.len();
-    for k in 0..n {
-        text[at + k] = s[k];
-    }
-    at + n
-}
-
-// A number in decimal, and what stands after it.
-fn put_field(text: &mut [u8], at: usize, n: usize, end: u8) -> usize
-    requires { ⌜ Room (now text) at (field n end) ⌝ }
-    ensures { λ r. ⌜ Put (now (text .entry)) at (field n end) r (now (text .exit)) ⌝ }
-{
-    let mut digits = [0u8; 20];
-    let k = io::decimal(n as u64, &mut digits);
-    let to = put_bytes(text, at, &digits[..k]);
-    text[to] = end;
-    to + 1
-}
-
-// What a refusal is about.
-pub enum Word {
-    Sheet,
-    Pair,
-    List,
-    Room,
-    Nothing,
-}
-
-// "The printing program groups the numbers by range."
-pub fn word_of(number: u32) -> Word
-    ensures { λ r. ⌜ r ≡ wordOf number ⌝ }
-{
-    match number {
-        1..=5 => Word::Sheet,
-        6..=8 => Word::Pair,
-        9..=11 => Word::List,
-        12..=15 => Word::Room,
-        _ => Word::Nothing,
-    }
-}
-
-fn put_word(text: &mut [u8], at: usize, w: Word) -> usize
-    requires { ⌜ Room (now text) at (wordLine w) ⌝ }
-    ensures { λ r. ⌜ Put (now (text .entry)) at (wordLine w) r (now (text .exit)) ⌝ }
-{
-    match w {
-        Word::Sheet => put_bytes(text, at, b"sheet\n"),
-        Word::Pair => put_bytes(text, at, b"pair\n"),
-        Word::List => put_bytes(text, at, b"list\n"),
-        Word::Room => put_bytes(text, at, b"room\n"),
-        Word::Nothing => put_bytes(text, at, b"\n"),
-    }
-}
-
-// ---- lines
-
-// "A refusal prints one line, as `refused 8 pair`."
-fn put_refusal(text: &mut [u8], at: usize, number: u32) -> usize
-    requires { ⌜ Room (now text) at (refusal number) ⌝ }
-    ensures { λ r. ⌜ Put (now (text .entry)) at (refusal number) r (now (text .exit)) ⌝ }
-{
-    let a = put_bytes(text, at, b"refused ");
-    let b = put_field(text, a, number as usize, b' ');
-    put_word(text, b, word_of(number))
-}
-
-// "The first line gives N, P and moved."
-fn put_heading(text: &mut [u8], at: usize, boxes: usize, links: usize, moved: u32) -> usize
-    requires { ⌜ Room (now text) at (heading boxes links moved) ⌝ }
-    ensures { λ r. ⌜ Put (now (text .entry)) at (heading boxes links moved) r (now (text .exit)) ⌝ }
-{
-    let a = put_bytes(text, at, b"boxes ");
-    let b = put_field(text, a, boxes, b' ');
-    let c = put_bytes(text, b, b"links ");
-    let d = put_field(text, c, links, b' ');
-    let e = put_bytes(text, d, b"moved ");
-    put_field(text, e, moved as usize, b'\n')
-}
-
-// "Each later line is box, origin, hops, neighbour it comes from."
-fn put_line(text: &mut [u8], at: usize, i: usize, j: usize, hops: usize, from: usize) -> usize
-    requires { ⌜ Room (now text) at (line i j hops from) ⌝ }
-    ensures { λ r. ⌜ Put (now (text .entry)) at (line i j hops from) r (now (text .exit)) ⌝ }
-{
-    let a = put_field(text, at, i, b' ');
-    let b = put_field(text, a, j, b' ');
-    let c = put_field(text, b, hops, b' ');
-    put_field(text, c, from, b'\n')
-}
+ghost use Rattle.lines.specs.Put.{Room, Put};
+ghost use Rattle.text.specs.Text.{firstWith, route, routes, printedIn};
 
 // ---- routes
 
@@ -132,7 +34,7 @@ fn put_route(board: &[u16], i: usize, j: usize, text: &mut [u8], at: usize) -> u
         return at;
     }
     let from = first_with(board, 66 * i + 18, j);
-    put_line(text, at, i, j, hops, from)
+    lines::put_line(text, at, i, j, hops, from)
 }
 
 // The lines of box i.
@@ -186,8 +88,8 @@ pub fn put_text(sheet: &[u8], text: &mut [u8]) -> usize
     let done = hub::drain(sheet, every_box(boxes), 4560, &mut board);
     let number = done.number;
     if number != 0 {
-        return put_refusal(text, 0, number);
+        return lines::put_refusal(text, 0, number);
     }
-    let at = put_heading(text, 0, boxes, links, done.moved);
+    let at = lines::put_heading(text, 0, boxes, links, done.moved);
     put_routes(&board, boxes, text, at)
 }

@@ -7,15 +7,12 @@ use Rattle.derowlas_c.proofs.derowlas_run.Reads as reads
 use Rattle.derowlas_c.proofs.derowlas_run.Lts as lts
 use Rattle.hub.proofs.run.Reads as run-reads
 
--- src/lib.rt:54:9
 run-requires : tie.Need-run-requires
 run-requires c κs = search needs
 
--- src/lib.rt:50:1
 same-length : tie.Need-same-length
 same-length c = search needs
 
--- src/lib.rt:50:1
 returns : tie.Need-returns
 returns c =
     let e = c .before .before .run .ensures in

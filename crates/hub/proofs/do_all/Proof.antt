@@ -8,44 +8,34 @@ use Rattle.board.proofs.put_board.Reads as put-board-reads
 use Rattle.hub.proofs.refused.Reads as refused-reads
 use Rattle.turns.proofs.run_own.Reads as run-own-reads
 
--- src/lib.rt:124:22
 mul-if1 : tie.Need-mul-if1
 mul-if1 c = search needs
 
--- src/lib.rt:125:9
 refused-requires : tie.Need-refused-requires
 refused-requires c κs = search needs
 
--- src/lib.rt:125:9
 returns : tie.Need-returns
 returns c = board-short (c .before .before .before .before .args .table) (c .before .before .before .before .pre .1 .1 .0) (c .before .before .before .before .args .list .now) (c .before .before .before .before .pre .1 .1 .1) (c .before .before .before .before .args .budget) (c .before .before .before .before .args .boxes) (c .before .before .before .before .pre .0) (c .before .before .before .before .args .board .now) _ (c .refused .ensures) (c .before .if1 .taken)
 
--- src/lib.rt:127:9
 run-own-requires : tie.Need-run-own-requires
 run-own-requires c κs = search needs
 
--- src/lib.rt:130:9
 refused-requires-2 : tie.Need-refused-requires-2
 refused-requires-2 c κs = search needs
 
--- src/lib.rt:130:9
 returns-2 : tie.Need-returns-2
 returns-2 c =
     own-full (c .before .before .before .before .before .before .before .args .table) (c .before .before .before .before .before .before .before .pre .1 .1 .0) (c .before .before .before .before .before .before .before .args .list .now) (c .before .before .before .before .before .before .before .pre .1 .1 .1) (c .before .before .before .before .before .before .before .args .budget) _ (c .before .before .before .run-own .ensures) (c .before .before .before .before .before .before .before .args .boxes) (c .before .before .before .before .before .before .before .pre .0) (c .before .before .before .before .before .before .before .args .board .now) (c .before .before .before .before .if1 .left) _ (c .refused2 .ensures) (c .before .if2 .taken)
 
--- src/lib.rt:133:5
 put-board-requires : tie.Need-put-board-requires
 put-board-requires c κs = search needs
 
--- src/lib.rt:134:17
 sub-under : tie.Need-sub-under
 sub-under c = own-less (c .before .before .before .before .before .before .before .before .before .before .before .before .args .table) (c .before .before .before .before .before .before .before .before .before .before .before .before .pre .1 .1 .0) (c .before .before .before .before .before .before .before .before .before .before .before .before .args .list .now) (c .before .before .before .before .before .before .before .before .before .before .before .before .pre .1 .1 .1) (c .before .before .before .before .before .before .before .before .before .before .before .before .args .budget) _ (c .before .before .before .before .before .before .before .before .run-own .ensures)
 
--- src/lib.rt:120:1
 same-length : tie.Need-same-length
 same-length c = search needs
 
--- src/lib.rt:120:1
 returns-3 : tie.Need-returns-3
 returns-3 c =
     own-done (c .before .before .before .before .before .before .before .before .before .before .before .before .args .table) (c .before .before .before .before .before .before .before .before .before .before .before .before .pre .1 .1 .0) (c .before .before .before .before .before .before .before .before .before .before .before .before .args .list .now) (c .before .before .before .before .before .before .before .before .before .before .before .before .pre .1 .1 .1) (c .before .before .before .before .before .before .before .before .before .before .before .before .args .budget) _ (c .before .before .before .before .before .before .before .before .run-own .ensures) (c .before .before .before .before .before .before .before .before .before .before .before .before .args .boxes) (c .before .before .before .before .before .before .before .before .before .before .before .before .pre .0) (c .before .before .before .before .before .before .before .before .before .before .before .before .args .board .now) (c .before .before .before .before .before .before .before .before .before .if1 .left) _ (c .before .before .before .before .before .before .if2 .left) (c .before .before .before .put-board .ensures)

@@ -19,46 +19,36 @@ use Rattle.hub.proofs.refused.Reads as refused-reads
 use Rattle.lists.proofs.start_list.Reads as start-list-reads
 use Rattle.sheet.proofs.parse.Reads as parse-reads
 
--- src/lib.rt:174:9
 parse-requires : tie.Need-parse-requires
 parse-requires c κs = search needs
 
--- src/lib.rt:177:9
 refused-requires : tie.Need-refused-requires
 refused-requires c κs = search needs
 
--- src/lib.rt:177:9
 returns : tie.Need-returns
 returns c = drain-sheet (c .before .before .before .before .before .args .sheet .now) (c .before .before .parse .result) (c .before .before .parse .ensures) (c .before .before .before .before .before .args .board .now) (c .before .before .before .before .before .args .starts) (c .before .before .before .before .before .args .budget) _ (c .before .if1 .taken) (c .refused .ensures)
 
--- src/lib.rt:181:8
 past-boxes-requires : tie.Need-past-boxes-requires
 past-boxes-requires c κs = search needs
 
--- src/lib.rt:182:9
 refused-requires-2 : tie.Need-refused-requires-2
 refused-requires-2 c κs = search needs
 
--- src/lib.rt:182:9
 returns-2 : tie.Need-returns-2
 returns-2 c =
     drain-starts (c .before .before .before .before .before .before .before .before .args .sheet .now) (c .before .before .before .before .before .parse .result) (c .before .before .before .before .before .parse .ensures) (c .before .before .before .before .before .before .before .before .args .board .now) (c .before .before .before .before .if1 .left) (c .before .before .before .before .before .before .before .before .args .starts) (c .before .before .before .before .before .before .before .before .args .budget) _ (rw (← c .before .before .past-boxes .ensures) (c .before .if2 .taken)) (c .refused2 .ensures)
 
--- src/lib.rt:184:9
 start-list-requires : tie.Need-start-list-requires
 start-list-requires c κs = search needs
 
--- src/lib.rt:187:12
 array-share-prefix-pairs : tie.Need-array-share-prefix-pairs
 array-share-prefix-pairs c = let l : length (c .before .start-list .result .pairs) ≡ 32 = search needs in omega (arith, c .before .start-list .ensures .1)
 
--- src/lib.rt:187:12
 slice-aggregate-do-all : tie.Need-slice-aggregate-do-all
 slice-aggregate-do-all c =
     let l : length (c .before .before .start-list .result .pairs) ≡ 32 = search needs in
     sym (length-take-le (c .before .before .start-list .result .len) (c .before .before .start-list .result .pairs) (omega (arith, c .before .before .start-list .ensures .1)))
 
--- src/lib.rt:187:5
 do-all-requires : tie.Need-do-all-requires
 do-all-requires c κs =
     let l : length (c .before .before .before .start-list .result .pairs) ≡ 32 = search needs in (
@@ -69,11 +59,9 @@ do-all-requires c κs =
       ),
     )
 
--- src/lib.rt:171:1
 same-length : tie.Need-same-length
 same-length c = search needs
 
--- src/lib.rt:171:1
 returns-3 : tie.Need-returns-3
 returns-3 c =
     c .before .before .do-all .ensures

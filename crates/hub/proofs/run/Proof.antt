@@ -11,31 +11,24 @@ use Rattle.lists.proofs.list_number.Reads as list-number-reads
 use Rattle.hub.proofs.refused.Reads as refused-reads
 use Rattle.sheet.proofs.parse.Reads as parse-reads
 
--- src/lib.rt:148:9
 parse-requires : tie.Need-parse-requires
 parse-requires c κs = search needs
 
--- src/lib.rt:151:9
 refused-requires : tie.Need-refused-requires
 refused-requires c κs = search needs
 
--- src/lib.rt:151:9
 returns : tie.Need-returns
 returns c = run-sheet (c .before .before .before .before .before .before .args .sheet .now) (c .before .before .parse .result) (c .before .before .parse .ensures) (c .before .before .before .before .before .before .args .board .now) (c .before .before .before .before .before .before .args .list .now) _ (c .before .if1 .taken) (c .refused .ensures)
 
--- src/lib.rt:155:9
 list-number-requires : tie.Need-list-number-requires
 list-number-requires c κs = search needs
 
--- src/lib.rt:157:9
 refused-requires-2 : tie.Need-refused-requires-2
 refused-requires-2 c κs = search needs
 
--- src/lib.rt:157:9
 returns-2 : tie.Need-returns-2
 returns-2 c = run-list (c .before .before .before .before .before .before .before .before .before .args .sheet .now) (c .before .before .before .before .before .parse .result) (c .before .before .before .before .before .parse .ensures) (c .before .before .before .before .before .before .before .before .before .args .board .now) (c .before .before .before .before .if1 .left) (c .before .before .before .before .before .before .before .before .before .args .list .now) _ _ (c .before .before .list-number .ensures) (c .before .if2 .taken) (c .refused2 .ensures)
 
--- src/lib.rt:159:5
 do-all-requires : tie.Need-do-all-requires
 do-all-requires c κs =
     let z = sym (c .before .before .list-number .ensures) ∙ c .before .if2 .left in (
@@ -46,11 +39,9 @@ do-all-requires c κs =
       ),
     )
 
--- src/lib.rt:145:1
 same-length : tie.Need-same-length
 same-length c = search needs
 
--- src/lib.rt:145:1
 returns-3 : tie.Need-returns-3
 returns-3 c =
     c .before .before .do-all .ensures

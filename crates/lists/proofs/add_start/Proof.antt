@@ -9,35 +9,27 @@ use Rattle.lists.proofs.add_start.Reads as reads
 use Rattle.lists.proofs.add_start.Lts as lts
 use Rattle.sets.proofs.is_in.Reads as is-in-reads
 
--- src/lib.rt:92:8
 is-in-requires : tie.Need-is-in-requires
 is-in-requires c κs = search needs
 
--- src/lib.rt:95:23
 cast-r : tie.Need-cast-r
 cast-r c = search needs
 
--- src/lib.rt:95:9
 element-write-r : tie.Need-element-write-r
 element-write-r c = search needs
 
--- src/lib.rt:96:27
 cast-r-2 : tie.Need-cast-r-2
 cast-r-2 c = search needs
 
--- src/lib.rt:96:17
 add-r : tie.Need-add-r
 add-r c = search needs
 
--- src/lib.rt:96:9
 element-write-r-2 : tie.Need-element-write-r-2
 element-write-r-2 c = search needs
 
--- src/lib.rt:97:17
 add-r-2 : tie.Need-add-r-2
 add-r-2 c = search needs
 
--- src/lib.rt:98:9
 returns : tie.Need-returns
 returns c = (
   starts-yes (c .before .before .args .starts) (c .before .before .args .i) (c .before .before .args .q .len) (c .before .before .args .q .pairs)
@@ -46,7 +38,6 @@ returns c = (
   search needs,
 )
 
--- src/lib.rt:88:1
 returns-2 : tie.Need-returns-2
 returns-2 c = (starts-no _ _ _ (sym (c .before .is-in .ensures) ∙ c .if1 .left), search needs)
 

@@ -19,35 +19,27 @@ Inv-loop list n table end i₀ i = (i ≤ length list) × (end ≡ length list) 
 abbrev μ-loop : tie.MeasureT-loop
 μ-loop list n table end i₀ i = length list - i
 
--- src/lib.rt:62:9
 returns : tie.Need-returns Inv-loop μ-loop
 returns c = odd-list _ _ _ (search needs)
 
--- src/lib.rt:65:9
 returns-2 : tie.Need-returns-2 Inv-loop μ-loop
 returns-2 c = long-list _ _ _ (search needs) (search needs)
 
--- src/lib.rt:68:5
 loop-holds : tie.Need-loop-holds Inv-loop μ-loop
 loop-holds c = search needs
 
--- src/lib.rt:69:39
 byte-at-requires : tie.Need-byte-at-requires Inv-loop μ-loop
 byte-at-requires c κs = omega arith
 
--- src/lib.rt:69:85
 add-byte-at : tie.Need-add-byte-at Inv-loop μ-loop
 add-byte-at c = omega arith
 
--- src/lib.rt:69:64
 byte-at-requires-2 : tie.Need-byte-at-requires-2 Inv-loop μ-loop
 byte-at-requires-2 c κs = omega arith
 
--- src/lib.rt:69:13
 pair-number-requires : tie.Need-pair-number-requires Inv-loop μ-loop
 pair-number-requires c κs = search needs
 
--- src/lib.rt:71:13
 returns-3 : tie.Need-returns-3 Inv-loop μ-loop
 returns-3 c =
     pairs-refused _ _ _ (c .before .before .before .before .before .loop .i) _ (omega arith)
@@ -55,15 +47,12 @@ returns-3 c =
     ∙ c .before .before .before .before .before .loop .inv .5
     ∙ sym (fair-list _ _ _ (c .before .before .before .before .before .loop .inv .2) (c .before .before .before .before .before .loop .inv .4))
 
--- src/lib.rt:73:9
 add-i : tie.Need-add-i Inv-loop μ-loop
 add-i c = omega arith
 
--- src/lib.rt:68:5
 loop-less : tie.Need-loop-less Inv-loop μ-loop
 loop-less c = omega arith
 
--- src/lib.rt:68:5
 loop-again : tie.Need-loop-again Inv-loop μ-loop
 loop-again c = (
   omega arith,
@@ -75,7 +64,6 @@ loop-again c = (
       ∙ c .before .before .before .before .before .loop .inv .5,
 )
 
--- src/lib.rt:56:1
 returns-4 : tie.Need-returns-4 Inv-loop μ-loop
 returns-4 c = sym (fair-list _ _ _ (c .before .loop .inv .2) (c .before .loop .inv .4) ∙ sym (c .before .loop .inv .5) ∙ pairs-end _ _ _ (c .before .loop .i) (omega arith))
 

@@ -7,35 +7,27 @@ use Rattle.lists.proofs.pair_number.Reads as reads
 use Rattle.lists.proofs.pair_number.Lts as lts
 use Rattle.sets.proofs.is_in.Reads as is-in-reads
 
--- src/lib.rt:41:9
 returns : tie.Need-returns
 returns c = high-first _ _ _ _ (search needs)
 
--- src/lib.rt:44:9
 returns-2 : tie.Need-returns-2
 returns-2 c = high-second _ _ _ _ (search needs) (search needs)
 
--- src/lib.rt:47:9
 returns-3 : tie.Need-returns-3
 returns-3 c = a-start _ _ _ _ (search needs) (search needs) (search needs)
 
--- src/lib.rt:49:20
 mul-is-in : tie.Need-mul-is-in
 mul-is-in c = search needs
 
--- src/lib.rt:49:20
 array-read-is-in : tie.Need-array-read-is-in
 array-read-is-in c = search needs
 
--- src/lib.rt:49:8
 is-in-requires : tie.Need-is-in-requires
 is-in-requires c κs = search needs
 
--- src/lib.rt:50:9
 returns-4 : tie.Need-returns-4
 returns-4 c = a-link _ _ _ _ (search needs) (search needs) (search needs) (sym (c .before .is-in .ensures) ∙ c .if4 .taken)
 
--- src/lib.rt:36:1
 returns-5 : tie.Need-returns-5
 returns-5 c = no-link _ _ _ _ (search needs) (search needs) (search needs) (sym (c .before .is-in .ensures) ∙ c .if4 .left)
 

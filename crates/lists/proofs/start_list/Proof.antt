@@ -18,23 +18,18 @@ Inv-loop starts q₀ i₀ q i = (i ≤ 16) × (q .len ≤ 2 * i) × (take (q .le
 abbrev μ-loop : tie.MeasureT-loop
 μ-loop starts q₀ i₀ q i = 16 - i
 
--- src/lib.rt:111:5
 loop-holds : tie.Need-loop-holds Inv-loop μ-loop
 loop-holds c = (omega arith, omega arith, sym (starts-none _))
 
--- src/lib.rt:112:9
 add-start-requires : tie.Need-add-start-requires Inv-loop μ-loop
 add-start-requires c κs = search needs
 
--- src/lib.rt:111:9
 add-i : tie.Need-add-i Inv-loop μ-loop
 add-i c = omega arith
 
--- src/lib.rt:111:5
 loop-less : tie.Need-loop-less Inv-loop μ-loop
 loop-less c = omega arith
 
--- src/lib.rt:111:5
 loop-again : tie.Need-loop-again Inv-loop μ-loop
 loop-again c = (
   omega arith,
@@ -42,7 +37,6 @@ loop-again c = (
   c .add-start .ensures .0 ∙ starts-more _ _ _ (c .before .before .loop .inv .2) ∙ ap (λ (n : ℕ). startPairs n (c .before .before .before .args .starts)) (sym (add-one (c .before .before .loop .i))),
 )
 
--- src/lib.rt:103:1
 returns : tie.Need-returns Inv-loop μ-loop
 returns c =
     let e : c .before .loop .i ≡ 16 = omega arith in

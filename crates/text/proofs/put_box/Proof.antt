@@ -4,8 +4,8 @@ use native.Mathlib.Omega.{arith}
 use mathlib.Core.Path.{_≡_}
 use borrow.Author.Needs.{needs}
 use Rattle.sets.specs.Stores.{Stored, stored-none, stored-length, stored-room, stored-next}
+use Rattle.lines.proofs.PutLaws.{put-stored}
 use Rattle.text.specs.Text.{route}
-use Rattle.text.proofs.PutLaws.{put-stored}
 use Rattle.text.proofs.put_box.Statement.{statement}
 use Rattle.text.proofs.put_box.Tie as tie
 

@@ -1,8 +1,9 @@
 -- `text::put_route` meets its contract: the tests on the way are those of `route`. Assumes nothing.
 use mathlib.Core.Path.{_≡_, sym, _∙_}
 use borrow.Author.Needs.{needs}
-use Rattle.text.specs.Text.{line, route}
-use Rattle.text.proofs.PutLaws.{put-none}
+use Rattle.lines.specs.Lines.{line}
+use Rattle.lines.proofs.PutLaws.{put-none}
+use Rattle.text.specs.Text.{route}
 use Rattle.text.proofs.TextLaws.{route-self, route-far, route-line}
 use Rattle.text.proofs.put_route.Statement.{statement}
 use Rattle.text.proofs.put_route.Tie as tie

@@ -5,8 +5,8 @@ use mathlib.Core.Path.{_≡_}
 use borrow.Author.Needs.{needs}
 use Rattle.rules.specs.Sets.{each}
 use Rattle.sets.specs.Stores.{Stored, stored-none, stored-length, stored-room, stored-next}
+use Rattle.lines.proofs.PutLaws.{put-stored}
 use Rattle.text.specs.Text.{route, routes}
-use Rattle.text.proofs.PutLaws.{put-stored}
 use Rattle.text.proofs.put_routes.Statement.{statement}
 use Rattle.text.proofs.put_routes.Tie as tie
 

@@ -6,9 +6,11 @@ use mathlib.Core.List.{List, _++_}
 use lib.ListN.{length, length-append}
 use denote.Ref.{now}
 use borrow.Author.Needs.{needs}
-use Rattle.text.specs.Text.{heading, refusal, routes, printed, printedIn}
-use Rattle.text.proofs.PutLaws.{put-none, put-then}
-use Rattle.text.proofs.TextLaws.{put-counts, refusal-most, heading-most, routes-most, printed-short, printed-fits, text-refused, text-done}
+use Rattle.lines.specs.Lines.{heading, refusal}
+use Rattle.lines.proofs.PutLaws.{put-none, put-then, put-counts}
+use Rattle.lines.proofs.LineLaws.{refusal-most, heading-most}
+use Rattle.text.specs.Text.{routes, printed, printedIn}
+use Rattle.text.proofs.TextLaws.{routes-most, printed-short, printed-fits, text-refused, text-done}
 use Rattle.text.proofs.put_text.Statement.{statement}
 use Rattle.text.proofs.put_text.Tie as tie
 

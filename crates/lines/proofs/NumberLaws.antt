@@ -11,7 +11,7 @@ use lib.ListN.{length, length-append, take}
 use Rattle.io.specs.Digits.{digits, Fewest, glyph}
 use Rattle.rules.specs.Sets.{least}
 use Rattle.sets.specs.Loops.{least-le, least-hit}
-use Rattle.text.specs.Text.{decimal, field}
+use Rattle.lines.specs.Lines.{decimal, field}
 
 -- the fewest places that hold n are those that `decimal` gives it
 module _ (n : ℕ) where

@@ -1,11 +1,11 @@
--- `text::put_line` meets its contract: four numbers, one after the other. Assumes nothing.
+-- `lines::put_line` meets its contract: four numbers, one after the other. Assumes nothing.
 use native.Mathlib.Omega.{arith}
 use borrow.Author.Needs.{needs}
-use Rattle.text.specs.Text.{line}
-use Rattle.text.proofs.PutLaws.{put-then}
-use Rattle.text.proofs.TextLaws.{line-length}
-use Rattle.text.proofs.put_line.Statement.{statement}
-use Rattle.text.proofs.put_line.Tie as tie
+use Rattle.lines.specs.Lines.{line}
+use Rattle.lines.proofs.PutLaws.{put-then}
+use Rattle.lines.proofs.LineLaws.{line-length}
+use Rattle.lines.proofs.put_line.Statement.{statement}
+use Rattle.lines.proofs.put_line.Tie as tie
 
 put-field-requires : tie.Need-put-field-requires
 put-field-requires c κs = let a = c .before .before .args in omega (arith, line-length (a .i) (a .j) (a .hops) (a .from))

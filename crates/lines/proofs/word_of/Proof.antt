@@ -1,8 +1,8 @@
--- `text::word_of` meets its contract: the ranges of the match are the tests of `wordOf`. Assumes nothing.
+-- `lines::word_of` meets its contract: the ranges of the match are the tests of `wordOf`. Assumes nothing.
 use native.Mathlib.Omega.{arith}
 use borrow.Author.Tests.{lt-ltb, le-ltb}
-use Rattle.text.proofs.word_of.Statement.{statement}
-use Rattle.text.proofs.word_of.Tie as tie
+use Rattle.lines.proofs.word_of.Statement.{statement}
+use Rattle.lines.proofs.word_of.Tie as tie
 
 returns : tie.Need-returns
 returns c = let n = c .before .before .args .number in rw (le-ltb n 1 (omega arith), lt-ltb n 6 (omega arith))

@@ -1,4 +1,4 @@
--- `text::put_bytes` meets its contract. The loop's invariant: the first k bytes are put. Assumes nothing.
+-- `lines::put_bytes` meets its contract. The loop's invariant: the first k bytes are put. Assumes nothing.
 use Prim.Native.Nat.{_+_, _-_, _≤_}
 use native.Mathlib.Omega.{arith}
 use native.Mathlib.Nat.{add-zero}
@@ -6,10 +6,10 @@ use mathlib.Core.Path.{_≡_}
 use lib.ListN.{length, take}
 use lib.Seq.{take-all}
 use borrow.Author.Needs.{needs}
-use Rattle.text.specs.Put.{Put}
-use Rattle.text.proofs.PutLaws.{put-none, put-more, put-length}
-use Rattle.text.proofs.put_bytes.Statement.{statement}
-use Rattle.text.proofs.put_bytes.Tie as tie
+use Rattle.lines.specs.Put.{Put}
+use Rattle.lines.proofs.PutLaws.{put-none, put-more, put-length}
+use Rattle.lines.proofs.put_bytes.Statement.{statement}
+use Rattle.lines.proofs.put_bytes.Tie as tie
 
 abbrev Inv-loop : tie.InvT-loop
 Inv-loop text₀ at s n k₀ text k = (k ≤ length s) × Put text₀ at (take k s) (at + k) text

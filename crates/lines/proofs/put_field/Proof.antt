@@ -1,14 +1,14 @@
--- `text::put_field` meets its contract: the digits of `io::decimal`, and a byte after them. Assumes nothing.
+-- `lines::put_field` meets its contract: the digits of `io::decimal`, and a byte after them. Assumes nothing.
 use native.Mathlib.Omega.{arith}
 use mathlib.Core.Path.{_≡_, ap}
 use lib.ListN.{length, take}
 use borrow.Author.Needs.{needs}
-use Rattle.text.specs.Text.{decimal, field}
-use Rattle.text.proofs.PutLaws.{put-byte}
-use Rattle.text.proofs.NumberLaws.{digits-are}
-use Rattle.text.proofs.TextLaws.{field-length}
-use Rattle.text.proofs.put_field.Statement.{statement}
-use Rattle.text.proofs.put_field.Tie as tie
+use Rattle.lines.specs.Lines.{decimal, field}
+use Rattle.lines.proofs.PutLaws.{put-byte}
+use Rattle.lines.proofs.NumberLaws.{digits-are}
+use Rattle.lines.proofs.LineLaws.{field-length}
+use Rattle.lines.proofs.put_field.Statement.{statement}
+use Rattle.lines.proofs.put_field.Tie as tie
 
 -- the digits are those of the number
 number : (c : tie.After-decimal) → take (c .decimal .result) (c .decimal .last .1 .0) ≡ decimal (c .before .before .before .args .n)

@@ -4,8 +4,8 @@ use Prim.Native.Nat.{ℕ}
 use mathlib.Core.Bool.{cond}
 use mathlib.Core.List.{List as Bytes, [], _∷_}
 use lib.Dec.{ltb}
-use Rattle.text.specs.declared.Word.{Word}
-use Rattle.text.specs.declared.Word.the-variants.{Sheet, Pair, List, Room, Nothing}
+use Rattle.lines.specs.declared.Word.{Word}
+use Rattle.lines.specs.declared.Word.the-variants.{Sheet, Pair, List, Room, Nothing}
 
 -- no other number is ever given
 abbrev pub wordOf : ℕ → Word
