@@ -101,7 +101,7 @@ fn allowances() {
 
 /// The program as it is run, on standard input and output.
 fn printed(input: &[u8]) -> String {
-    let mut program = Command::new(env!("CARGO_BIN_EXE_routes"))
+    let mut program = Command::new(env!("CARGO_BIN_EXE_plain_routes"))
         .stdin(Stdio::piped())
         .stdout(Stdio::piped())
         .spawn()

@@ -1,5 +1,5 @@
-//! The printing program: reads a sheet from standard input and prints the
-//! routes of every box, or the refusal.
+//! The printing program of document 01, unproved: reads a sheet from standard
+//! input and prints the routes of every box, or the refusal.
 
 use std::io::{self, Read, Write};
 use std::process::ExitCode;
@@ -29,7 +29,7 @@ fn main() -> ExitCode {
     match printed {
         Ok(()) => ExitCode::SUCCESS,
         Err(error) => {
-            eprintln!("routes: {error}");
+            eprintln!("plain_routes: {error}");
             ExitCode::FAILURE
         }
     }
