@@ -4,7 +4,7 @@
 // owes (no NULL, no overlap).
 ghost use mathlib.Core.Path.{_≡_};
 ghost use Rattle.rules.specs.Calls.{readCall, writeCall, allowanceCall, runCall, drainCall};
-ghost use Rattle.sheet.specs.Answers.{readOf, allowedOf};
+ghost use Rattle.reading.specs.Answers.{readOf, allowedOf};
 ghost use Rattle.writing.specs.Answers.{writtenOf};
 ghost use Rattle.hub.specs.Answers.{answerOf};
 ghost use Rattle.derowlas_c.specs.Answers.{Answers};
@@ -13,10 +13,10 @@ ghost use Rattle.derowlas_c.specs.Answers.{Answers};
 
 // Reads a sheet into a lent table of 16 words, the link set of each box. A refusal leaves the table as it was.
 #[no_mangle]
-pub extern "C" fn derowlas_read(sheet: &[u8], table: &mut [u16]) -> sheet::Reading
+pub extern "C" fn derowlas_read(sheet: &[u8], table: &mut [u16]) -> reading::Reading
     ensures { λ r. ⌜ readOf r (now (table .exit)) ≡ readCall (now (sheet .entry)) (now (table .entry)) ⌝ }
 {
-    sheet::read(sheet, table)
+    reading::read(sheet, table)
 }
 
 // Writes the sheet of N boxes and a link table to the start of a lent buffer; the rest stays. A refusal leaves the buffer as it was.
@@ -29,10 +29,10 @@ pub extern "C" fn derowlas_write(boxes: u32, table: &[u16], buffer: &mut [u8]) -
 
 // The identities that a full broadcast sends, which planners use for line charges.
 #[no_mangle]
-pub extern "C" fn derowlas_allowance(sheet: &[u8]) -> sheet::Allowed
+pub extern "C" fn derowlas_allowance(sheet: &[u8]) -> reading::Allowed
     ensures { λ r. ⌜ allowedOf r ≡ allowanceCall (now (sheet .entry)) ⌝ }
 {
-    sheet::allowance(sheet)
+    reading::allowance(sheet)
 }
 
 // ---- lists and the drain

@@ -1,5 +1,3 @@
-pub mod CallLaws
-pub mod ListLaws
 pub mod PairLaws
 pub mod RefusalLaws
 pub mod SheetLaws

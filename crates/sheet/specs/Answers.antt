@@ -1,4 +1,4 @@
--- The answers of this crate's calls as the outcomes of the rules. Definitions alone.
+-- The answers of this crate's functions as the outcomes of the rules. Definitions alone.
 use Prim.Native.Nat.{ℕ, _+_, _*_, _≤_}
 use mathlib.Core.Path.{_≡_}
 use mathlib.Core.Bool.{not, _||_, cond}
@@ -7,11 +7,8 @@ use lib.Dec.{eqb, ltb, leb}
 use lib.ListN.{replicate}
 use Rattle.rules.specs.Outcome.{Outcome, refused, accepted}
 use Rattle.rules.specs.Sheet.{Sheet, above, readSheet}
-use Rattle.rules.specs.Calls.{Read, Allowed as AllowedAnswer}
-use Rattle.sheet.specs.declared.Allowed.{Allowed}
 use Rattle.sheet.specs.declared.Pairs.{Pairs}
 use Rattle.sheet.specs.declared.Parsed.{Parsed}
-use Rattle.sheet.specs.declared.Reading.{Reading}
 
 -- the number that the pair (c, d) is refused with after (a, b), 0 where it is not
 unfoldable pub pairNumber : ℕ → ℕ → ℕ → ℕ → ℕ → ℕ
@@ -52,11 +49,3 @@ pub record ParsedFrom (sheet : List ℕ) (r : Parsed) : Type 0 where
   pub boxes-some : r .number ≡ 0 → 1 ≤ r .boxes
   pub boxes-most : r .boxes ≤ 16
   pub links-most : r .links ≤ 120
-
--- ---- a call's answer, with what it leaves in the lent words, as the rules have it
-
-abbrev pub readOf : Reading → List ℕ → Read
-readOf r table = record { number = r .number; boxes = r .boxes; links = r .links; table = table }
-
-abbrev pub allowedOf : Allowed → AllowedAnswer
-allowedOf r = record { number = r .number; identities = r .identities }

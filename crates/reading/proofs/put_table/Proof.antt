@@ -6,9 +6,9 @@ use mathlib.Core.Path.{_≡_}
 use mathlib.Core.List.{_++_}
 use lib.ListN.{length, length-set, take, drop}
 use borrow.Author.Needs.{needs}
-use Rattle.sheet.proofs.ListLaws.{copy-more, copy-all}
-use Rattle.sheet.proofs.put_table.Statement.{statement}
-use Rattle.sheet.proofs.put_table.Tie as tie
+use Rattle.reading.proofs.ListLaws.{copy-more, copy-all}
+use Rattle.reading.proofs.put_table.Statement.{statement}
+use Rattle.reading.proofs.put_table.Tie as tie
 
 abbrev Inv-loop : tie.InvT-loop
 Inv-loop table₀ t k₀ table k = (k ≤ 16) × (length table ≡ length table₀) × (table ≡ take k t ++ drop k table₀)

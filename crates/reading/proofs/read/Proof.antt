@@ -1,8 +1,8 @@
 -- `read` meets its contract, from what `parse` and `put_table` ensure. Assumes nothing.
 use borrow.Author.Needs.{needs}
-use Rattle.sheet.proofs.CallLaws.{read-refused, read-no-room, read-done}
-use Rattle.sheet.proofs.read.Statement.{statement}
-use Rattle.sheet.proofs.read.Tie as tie
+use Rattle.reading.proofs.CallLaws.{read-refused, read-no-room, read-done}
+use Rattle.reading.proofs.read.Statement.{statement}
+use Rattle.reading.proofs.read.Tie as tie
 
 parse-requires : tie.Need-parse-requires
 parse-requires c κs = search needs

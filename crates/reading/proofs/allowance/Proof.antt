@@ -1,9 +1,9 @@
 -- `allowance` meets its contract, from what `parse` ensures. Assumes nothing.
 use native.Mathlib.Omega.{arith}
 use borrow.Author.Needs.{needs}
-use Rattle.sheet.proofs.CallLaws.{allowance-refused, allowance-done, fits-small}
-use Rattle.sheet.proofs.allowance.Statement.{statement}
-use Rattle.sheet.proofs.allowance.Tie as tie
+use Rattle.reading.proofs.CallLaws.{allowance-refused, allowance-done, fits-small}
+use Rattle.reading.proofs.allowance.Statement.{statement}
+use Rattle.reading.proofs.allowance.Tie as tie
 
 parse-requires : tie.Need-parse-requires
 parse-requires c κs = search needs
