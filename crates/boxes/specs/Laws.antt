@@ -7,8 +7,7 @@ use mathlib.Core.Path.{_≡_, refl, sym, ap, _∙_}
 use mathlib.Core.Bool.{Bool, true, false, cond}
 use mathlib.Core.List.{List, [], _∷_, _++_, map}
 use lib.Dec.{eqb}
-use lib.ListN.{length, set, getD}
-use lib.Seq.{getD-set-same, getD-set-other}
+use lib.ListN.{set}
 use Rattle.rules.specs.Sets.{mem, without, word, members, forEach}
 use Rattle.rules.specs.Box.{Msg, notspt, neighbors, Box, started, startSends, takeSet, takeSets, before, roundSends, stops, nextHop}
 use Rattle.sets.specs.Loops.{getD-words}
@@ -16,7 +15,7 @@ use Rattle.boxes.specs.declared.Record.{Record}
 use Rattle.boxes.specs.declared.Arrival.{Arrival}
 use Rattle.boxes.specs.declared.Departure.{Departure}
 use Rattle.boxes.specs.declared.Stepped.{Stepped}
-use Rattle.boxes.specs.Record.{boxOf, recordOf, blank}
+use Rattle.boxes.specs.Record.{boxOf, recordOf}
 use Rattle.boxes.specs.Step.{woken, taken, hopped, withoutEach, setsOf, originsOf, noSets, saveAll, isStopped, saved, settled, rounded, worked, stepDef}
 use Rattle.boxes.specs.Tables.{forEach-none}
 
@@ -173,12 +172,3 @@ module _ (w n : ℕ) (heads : ℕ → ℕ) (b : Box) where
   pub taken-neighbors : takeSets w n heads b .neighbors ≡ b .neighbors
   unfolding takeSets takeSet
   taken-neighbors = keeps (λ c. c .neighbors) w n heads b (λ j s c. refl) w
-
--- ---- the row: what `deliver_at` leaves
-
--- a delivery to box b leaves every other record as it was
-pub others-kept : (row : List Record) (b k : ℕ) (x : Record) → (k ≡ b → ⊥) → getD (set row b x) k blank ≡ getD row k blank
-others-kept row b k x d = getD-set-other row b k x blank d
-
-pub receiver-set : (row : List Record) (b : ℕ) (x : Record) → b < length row → getD (set row b x) b blank ≡ x
-receiver-set row b x l = getD-set-same row b x blank l

@@ -4,10 +4,9 @@ ghost use mathlib.Core.Path.{_≡_};
 ghost use Prim.Native.Nat.{ℕ, suc, _+_, _%_, _^_, _<_};
 ghost use mathlib.Core.Bool.{cond};
 ghost use lib.Dec.{eqb};
-ghost use lib.ListN.{length, set, getD};
 ghost use Rattle.rules.specs.Sets.{mem, without, word, union};
 ghost use Rattle.rules.specs.Box.{asleep, started, takeSets, before};
-ghost use Rattle.boxes.specs.Record.{boxOf, recordOf, blank};
+ghost use Rattle.boxes.specs.Record.{boxOf, recordOf};
 ghost use Rattle.boxes.specs.Step.{hopped, withoutEach, saveAll, setsOf, originsOf, stepDef};
 
 // state: 0 asleep, 1 awake, 2 stopped. "A record carries its arrays with it, tables and counts together."
@@ -281,21 +280,4 @@ pub fn step(r: Record, a: Arrival) -> Stepped
             neighbors: known,
         },
     }
-}
-
-// "a delivery rewrites the receiver's record where it sits": the step by value, its record stored back, what goes out handed on.
-pub fn deliver(r: &mut Record, a: Arrival) -> Departure
-    ensures { λ q. ⌜ (now (r .exit) ≡ stepDef (now (r .entry)) a .«record») × (q ≡ stepDef (now (r .entry)) a .out) ⌝ }
-{
-    let s = step(*r, a);
-    *r = s.record;
-    s.out
-}
-
-// "The boxes' records stand side by side in one lent row": the receiver's record is lent on, and all others stay as they are.
-pub fn deliver_at(row: &mut [Record], b: usize, a: Arrival) -> Departure
-    requires { ⌜ b < length (now row) ⌝ }
-    ensures { λ q. ⌜ (now (row .exit) ≡ set (now (row .entry)) b (stepDef (getD (now (row .entry)) b blank) a .«record»)) × (q ≡ stepDef (getD (now (row .entry)) b blank) a .out) ⌝ }
-{
-    deliver(&mut row[b], a)
 }

@@ -16,7 +16,7 @@ fn one_turn(row: &mut [Record], store: &mut [u32], list: &[u8], c: Turn) -> Turn
     ensures { λ r. ⌜ going (now (row .exit)) (now (store .exit)) r ≡ onDef (now (list .entry)) (going (now (row .entry)) (now (store .entry)) c) ⌝ }
 {
     let h = turn::take(store, list, c);
-    let o = boxes::deliver_at(row, h.own, h);
+    let o = rows::deliver_at(row, h.own, h);
     pass::go_on(store, list, o, c)
 }
 

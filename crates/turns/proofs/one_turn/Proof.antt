@@ -1,5 +1,5 @@
 -- `turns::one_turn` meets its contract: a walk of its MIR, by hand, with two `&mut` parameters and a `&`. The store's borrow is opened, lent to the covered `turn::take` for a
--- lifetime that is made for the call, comes back and is closed. The row is then passed on to `boxes::deliver_at` for good, and the store to the covered `pass::go_on` for good:
+-- lifetime that is made for the call, comes back and is closed. The row is then passed on to `rows::deliver_at` for good, and the store to the covered `pass::go_on` for good:
 -- each at its own lifetime, with nothing opened (`gave-slice`). The list is copied for the second call that reads it; of it and of the plain parameters nothing is kept
 -- (`stay-dropped`). Assumes nothing.
 use mathlib.Core.Path.{_≡_, refl, sym, _∙_, ap, subst}
@@ -69,10 +69,10 @@ use Rattle.turn.proofs.take as take
 use Rattle.turn.proofs.take.Symbol as take-def
 use Rattle.turn.proofs.take.Symbol.{name as #turn·take}
 use Rattle.turn.proofs.take.Met as take-thm
-use Rattle.boxes.proofs.deliver_at as deliver-at
-use Rattle.boxes.proofs.deliver_at.Symbol as deliver-at-def
-use Rattle.boxes.proofs.deliver_at.Symbol.{name as #boxes·deliver-at}
-use Rattle.boxes.proofs.deliver_at.Met as deliver-at-thm
+use Rattle.rows.proofs.deliver_at as deliver-at
+use Rattle.rows.proofs.deliver_at.Symbol as deliver-at-def
+use Rattle.rows.proofs.deliver_at.Symbol.{name as #rows·deliver-at}
+use Rattle.rows.proofs.deliver_at.Met as deliver-at-thm
 use Rattle.pass.proofs.go_on as go-on
 use Rattle.pass.proofs.go_on.Symbol as go-on-def
 use Rattle.pass.proofs.go_on.Symbol.{name as #pass·go-on}
@@ -205,7 +205,7 @@ module _ {M : Type 1} (𝓤 : URA M) (H : Heap 𝓤) (A : Atoms 𝓤) (W : Given
   abbrev WentOn : List ℕ → Departure → Turn → List ℕ → Type 0
   WentOn ss′ o r ss″ = kept ss″ r ≡ passAll ls (putDef ss′ o c)
 
-  module _ (C : Calls 𝓤 H) (Λ : Loops 𝓤 H) (fm : FmC 𝓤 H (W .laws) C) (known-take : Triple 𝓤 (C #turn·take) (Take 𝓤 H A at-mem run)) (known-deliver : Triple 𝓤 (C #boxes·deliver-at) (Deliver 𝓤 H A at-mem run)) (known-go-on : Triple 𝓤 (C #pass·go-on) (GoOn 𝓤 H A at-mem run)) where
+  module _ (C : Calls 𝓤 H) (Λ : Loops 𝓤 H) (fm : FmC 𝓤 H (W .laws) C) (known-take : Triple 𝓤 (C #turn·take) (Take 𝓤 H A at-mem run)) (known-deliver : Triple 𝓤 (C #rows·deliver-at) (Deliver 𝓤 H A at-mem run)) (known-go-on : Triple 𝓤 (C #pass·go-on) (GoOn 𝓤 H A at-mem run)) where
     walk : Room R (length rs) → Room u32 (length ss) → Room u8 (length ls) → ent 𝓤 (onEntry 𝓤 H A one.signature (κ₀, (κ₁, (κ₂, tt))) (q₀, (q₁, (q₂, tt))) a vals) (WpFn 𝓤 H C Λ code.function (s₀ ∷ s₁ ∷ s₂ ∷ turn-val c ∷ []) Post)
     walk room₀ room₁ room₂ =
         qed W ((‵ (flft κ₀ q₀) ⊛ (‵ (flft κ₁ q₁) ⊛ (‵ (flft κ₂ q₂) ⊛ ‵ ftrue))) ∷ ‵ (owns (MutSlice (named 0) κ₀ R ∷ MutSlice (named 1) κ₁ u32 ∷ ShrSlice (named 2) κ₂ u8 ∷ N.the-row ∷ []) a vals) ∷ []) ∵ enter ! C Λ code.function (s₀ ∷ s₁ ∷ s₂ ∷ turn-val c ∷ []) _ $
@@ -265,7 +265,7 @@ module _ {M : Type 1} (𝓤 : URA M) (H : Heap 𝓤) (A : Atoms 𝓤) (W : Given
         move ! (1 ∷ []) $ split ! $ move ! (0 ∷ 5 ∷ []) $ join ! $ keep ! (6 ∷ 3 ∷ 5 ∷ 0 ∷ 1 ∷ 2 ∷ []) $ by ! (exits w₂ r (ws₁ .0) (ws₂ .0) k₁ (k₂ ∙ k) (on-is ls rs (ws₁ .0) ss (ws .0) (ws₂ .0) c r h o (g .0) (g .1 .0) (g₁ .0) (g₁ .1) g₂)))))))))))))))))))))))))))))))))))
 
 module _ {M : Type 1} (𝓤 : URA M) (H : Heap 𝓤) (A : Atoms 𝓤) (W : Given 𝓤 H A) (at-mem : Memory → SProp 𝓤) (run : Routine → Fun 𝓤) where
-  one-walks : (C : Calls 𝓤 H) (Λ : Loops 𝓤 H) → FmC 𝓤 H (W .laws) C → Triple 𝓤 (C #turn·take) (Take 𝓤 H A at-mem run) → Triple 𝓤 (C #boxes·deliver-at) (Deliver 𝓤 H A at-mem run) → Triple 𝓤 (C #pass·go-on) (GoOn 𝓤 H A at-mem run)
+  one-walks : (C : Calls 𝓤 H) (Λ : Loops 𝓤 H) → FmC 𝓤 H (W .laws) C → Triple 𝓤 (C #turn·take) (Take 𝓤 H A at-mem run) → Triple 𝓤 (C #rows·deliver-at) (Deliver 𝓤 H A at-mem run) → Triple 𝓤 (C #pass·go-on) (GoOn 𝓤 H A at-mem run)
       → Walks 𝓤 H A one.ended stayed (WpFn 𝓤 H C Λ code.function) (one.clauses 𝓤 H A at-mem run)
   one-walks C Λ fm known-take known-deliver known-go-on = walked 𝓤 H A one.ended stayed (one.clauses 𝓤 H A at-mem run) (WpFn 𝓤 H C Λ code.function)
       (λ κs. (slice-vals, (slice-vals, (slice-vals, (LL.vals N.the-type N′.the-laws, tt)))))
@@ -275,7 +275,7 @@ module _ {M : Type 1} (𝓤 : URA M) (H : Heap 𝓤) (A : Atoms 𝓤) (W : Given
       C Λ fm known-take known-deliver known-go-on (are .0 .0 .1) (are .1 .0 .0 .1) (are .1 .1 .0 .0 .1)))
 
 one-meets : {M : Type 1} (𝓤 : URA M) (H : Heap 𝓤) (A : Atoms 𝓤) → Given 𝓤 H A → (at-mem : Memory → SProp 𝓤) (run : Routine → Fun 𝓤) (𝓣 : Tables 𝓤 H)
-    → Triple 𝓤 (𝓣 .C #turn·take) (Take 𝓤 H A at-mem run) → Triple 𝓤 (𝓣 .C #boxes·deliver-at) (Deliver 𝓤 H A at-mem run) → Triple 𝓤 (𝓣 .C #pass·go-on) (GoOn 𝓤 H A at-mem run)
+    → Triple 𝓤 (𝓣 .C #turn·take) (Take 𝓤 H A at-mem run) → Triple 𝓤 (𝓣 .C #rows·deliver-at) (Deliver 𝓤 H A at-mem run) → Triple 𝓤 (𝓣 .C #pass·go-on) (GoOn 𝓤 H A at-mem run)
     → Meets 𝓤 H A one.signature (WpFn 𝓤 H (𝓣 .C) (𝓣 .Λ) code.function) (one.spec 𝓤 H A at-mem run)
 one-meets 𝓤 H A W at-mem run 𝓣 known-take known-deliver known-go-on =
     walk-meets 𝓤 H A one.ended stayed W
@@ -290,5 +290,5 @@ one-turn-spec 𝓤 H 𝓜 𝓖 𝓡 =
     (tables 𝓤 H 𝓜 𝓡 code.env .C) (tables 𝓤 H 𝓜 𝓡 code.env .Λ) #turns·one-turn code.function (code.unfolded 𝓤 H 𝓜 𝓡)
     (one-meets 𝓤 H (𝓖 .A) (givenOf 𝓤 H 𝓜 𝓖) (𝓜 .mem) (𝓡 .run) (tablesOf 𝓤 H 𝓜 (tables 𝓤 H 𝓜 𝓡 code.env))
     (cited 𝓤 H (Take 𝓤 H (𝓖 .A) (𝓜 .mem) (𝓡 .run)) 𝓜 𝓡 code.env #turn·take take-def.routine code.calls-turn·take (take-thm.met 𝓤 H 𝓜 𝓖 𝓡))
-    (cited 𝓤 H (Deliver 𝓤 H (𝓖 .A) (𝓜 .mem) (𝓡 .run)) 𝓜 𝓡 code.env #boxes·deliver-at deliver-at-def.routine code.calls-boxes·deliver-at (deliver-at-thm.met 𝓤 H 𝓜 𝓖 𝓡))
+    (cited 𝓤 H (Deliver 𝓤 H (𝓖 .A) (𝓜 .mem) (𝓡 .run)) 𝓜 𝓡 code.env #rows·deliver-at deliver-at-def.routine code.calls-rows·deliver-at (deliver-at-thm.met 𝓤 H 𝓜 𝓖 𝓡))
     (cited 𝓤 H (GoOn 𝓤 H (𝓖 .A) (𝓜 .mem) (𝓡 .run)) 𝓜 𝓡 code.env #pass·go-on go-on-def.routine code.calls-pass·go-on (go-on-thm.met 𝓤 H 𝓜 𝓖 𝓡)))

@@ -1,4 +1,4 @@
--- `boxes::deliver` meets its contract: a walk of its MIR, by hand. The record's borrow is opened and the record copied; the covered `step` is called; what its
+-- `rows::deliver` meets its contract: a walk of its MIR, by hand. The record's borrow is opened and the record copied; the covered `boxes::step` is called; what its
 -- answer owns is taken apart, the record's part is stored and closes the borrow, and what goes out is the result.
 -- Assumes nothing.
 use mathlib.Core.Path.{_≡_, refl, ap}
@@ -39,27 +39,27 @@ use denote.Triple.Spec.{Meets, tripleOf}
 use denote.Triple.Table.{entered, cited}
 use denote.Triple.Walked.{says, Stays, stay-ref, stay-none, walkOf, goes-none, goes-ref, Walks, ends-at, walked, walk-meets}
 use denote.Exit.{yes}
 use Rattle.boxes.specs.declared.Record.{Record}
 use Rattle.boxes.specs.declared.Arrival.{Arrival}
 use Rattle.boxes.specs.declared.Departure.{Departure}
 use Rattle.boxes.specs.declared.Stepped.{Stepped}
 use Rattle.boxes.specs.Step.{stepDef}
 use Rattle.boxes.proofs.Record as T
 use Rattle.boxes.proofs.Record.Laws as T′
 use Rattle.boxes.proofs.Departure as Q
 use Rattle.boxes.proofs.Departure.Laws as Q′
 use Rattle.boxes.proofs.Arrival as P
 use Rattle.boxes.proofs.Arrival.Laws as P′
 use Rattle.boxes.proofs.Stepped as S
 use Rattle.boxes.proofs.Stepped.Laws as S′
 use Rattle.boxes.proofs.step as step
 use Rattle.boxes.proofs.step.Symbol as step-def
 use Rattle.boxes.proofs.step.Symbol.{name as #boxes·step}
 use Rattle.boxes.proofs.step.Met as step-thm
-use Rattle.boxes.proofs.deliver.Key.{name as #boxes·deliver}
-use Rattle.boxes.proofs.deliver as deliver
-use Rattle.boxes.proofs.deliver.Statement as stated
-use Rattle.boxes.proofs.deliver.Code as code
+use Rattle.rows.proofs.deliver.Key.{name as #rows·deliver}
+use Rattle.rows.proofs.deliver as deliver
+use Rattle.rows.proofs.deliver.Statement as stated
+use Rattle.rows.proofs.deliver.Code as code
 
 abbrev R : RattleType
 R = T.the-row
@@ -172,6 +172,6 @@ pub deliver-spec : {M : Type 1} → stated.statement M
 unfolding code.routine tablesOf
 deliver-spec 𝓤 H 𝓜 𝓖 𝓡 =
     entered 𝓤 H (tripleOf 𝓤 H (𝓖 .A) deliver.signature (deliver.spec 𝓤 H (𝓖 .A) (𝓜 .mem) (𝓡 .run)))
-    (tables 𝓤 H 𝓜 𝓡 code.env .C) (tables 𝓤 H 𝓜 𝓡 code.env .Λ) #boxes·deliver code.function (code.unfolded 𝓤 H 𝓜 𝓡)
+    (tables 𝓤 H 𝓜 𝓡 code.env .C) (tables 𝓤 H 𝓜 𝓡 code.env .Λ) #rows·deliver code.function (code.unfolded 𝓤 H 𝓜 𝓡)
     (deliver-meets 𝓤 H (𝓖 .A) (givenOf 𝓤 H 𝓜 𝓖) (𝓜 .mem) (𝓡 .run) (tablesOf 𝓤 H 𝓜 (tables 𝓤 H 𝓜 𝓡 code.env))
     (cited 𝓤 H (Step 𝓤 H (𝓖 .A) (𝓜 .mem) (𝓡 .run)) 𝓜 𝓡 code.env #boxes·step step-def.routine code.calls-boxes·step (step-thm.met 𝓤 H 𝓜 𝓖 𝓡)))

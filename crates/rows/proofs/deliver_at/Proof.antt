@@ -1,4 +1,4 @@
--- `boxes::deliver_at` meets its contract: a walk of its MIR, by hand. The row's borrow is opened, the receiver's record is taken out of the row, lent to `deliver`
+-- `rows::deliver_at` meets its contract: a walk of its MIR, by hand. The row's borrow is opened, the receiver's record is taken out of the row, lent to `deliver`
 -- for a lifetime that is made for the call, and comes back at the record that `deliver`'s contract names; it is put back among the others, which no step
 -- touches, and the borrow is closed at the new row. What `deliver` answers is the result. Assumes nothing.
 use mathlib.Core.Path.{_≡_, refl, sym, ap, subst}
@@ -46,24 +46,24 @@ use denote.Triple.Spec.{Meets, tripleOf}
 use denote.Triple.Table.{entered, cited}
 use denote.Triple.Walked.{says, needs, Stays, stay-slice, stay-none, walkOf, goes-none, goes-slice, Walks, ends-at, walked, walk-meets}
 use denote.Exit.{yes}
 use Rattle.boxes.specs.declared.Record.{Record}
 use Rattle.boxes.specs.declared.Arrival.{Arrival}
 use Rattle.boxes.specs.declared.Departure.{Departure}
 use Rattle.boxes.specs.Record.{blank}
 use Rattle.boxes.specs.Step.{stepDef}
 use Rattle.boxes.proofs.Record as T
 use Rattle.boxes.proofs.Arrival as P
 use Rattle.boxes.proofs.Arrival.Laws as P′
 use Rattle.boxes.proofs.Departure as Q
 use Rattle.boxes.proofs.Departure.Laws as Q′
-use Rattle.boxes.proofs.deliver as deliver
-use Rattle.boxes.proofs.deliver.Symbol as deliver-def
-use Rattle.boxes.proofs.deliver.Symbol.{name as #boxes·deliver}
-use Rattle.boxes.proofs.deliver.Met as deliver-thm
-use Rattle.boxes.proofs.deliver_at.Key.{name as #boxes·deliver-at}
-use Rattle.boxes.proofs.deliver_at as deliver-at
-use Rattle.boxes.proofs.deliver_at.Statement as stated
-use Rattle.boxes.proofs.deliver_at.Code as code
+use Rattle.rows.proofs.deliver as deliver
+use Rattle.rows.proofs.deliver.Symbol as deliver-def
+use Rattle.rows.proofs.deliver.Symbol.{name as #rows·deliver}
+use Rattle.rows.proofs.deliver.Met as deliver-thm
+use Rattle.rows.proofs.deliver_at.Key.{name as #rows·deliver-at}
+use Rattle.rows.proofs.deliver_at as deliver-at
+use Rattle.rows.proofs.deliver_at.Statement as stated
+use Rattle.rows.proofs.deliver_at.Code as code
 
 abbrev R : RattleType
 R = T.the-row
@@ -138,7 +138,7 @@ module _ {M : Type 1} (𝓤 : URA M) (H : Heap 𝓤) (A : Atoms 𝓤) (W : Given
       nothing ! $ owned ! P.the-row (Is P.the-row) (LL.makes P.the-type P′.the-plain 𝓤 H A) m _ m-is $ fjoin ! $ move ! (1 ∷ 0 ∷ []) $ fjoin ! $
       nothing ! $ move ! (2 ∷ 0 ∷ []) $ join ! $ join ! $ frame ! $ done !
 
-  module _ (C : Calls 𝓤 H) (Λ : Loops 𝓤 H) (fm : FmC 𝓤 H (W .laws) C) (known : Triple 𝓤 (C #boxes·deliver) (Deliver 𝓤 H A at-mem run)) where
+  module _ (C : Calls 𝓤 H) (Λ : Loops 𝓤 H) (fm : FmC 𝓤 H (W .laws) C) (known : Triple 𝓤 (C #rows·deliver) (Deliver 𝓤 H A at-mem run)) where
     walk : Room R (length ys) → i < length ys → ent 𝓤 (onEntry 𝓤 H A deliver-at.signature (κ, tt) (q, tt) a vals) (WpFn 𝓤 H C Λ code.function (s ∷ vint w64 i ∷ come-val m ∷ []) Post)
     walk room within =
         qed W ((‵ (flft κ q) ⊛ ‵ ftrue) ∷ ‵ (owns (MutSlice (named 0) κ R ∷ usize ∷ P.the-row ∷ []) a vals) ∷ []) ∵ enter ! C Λ code.function (s ∷ vint w64 i ∷ come-val m ∷ []) _ $
@@ -173,13 +173,13 @@ module _ {M : Type 1} (𝓤 : URA M) (H : Heap 𝓤) (A : Atoms 𝓤) (W : Given
         keep ! (0 ∷ 1 ∷ 2 ∷ 4 ∷ []) $ by ! (exits (zs .0) d w e room)))))))))))))))
 
 module _ {M : Type 1} (𝓤 : URA M) (H : Heap 𝓤) (A : Atoms 𝓤) (W : Given 𝓤 H A) (at-mem : Memory → SProp 𝓤) (run : Routine → Fun 𝓤) where
-  deliver-at-walks : (C : Calls 𝓤 H) (Λ : Loops 𝓤 H) → FmC 𝓤 H (W .laws) C → Triple 𝓤 (C #boxes·deliver) (Deliver 𝓤 H A at-mem run) → Walks 𝓤 H A deliver-at.ended stayed (WpFn 𝓤 H C Λ code.function) (deliver-at.clauses 𝓤 H A at-mem run)
+  deliver-at-walks : (C : Calls 𝓤 H) (Λ : Loops 𝓤 H) → FmC 𝓤 H (W .laws) C → Triple 𝓤 (C #rows·deliver) (Deliver 𝓤 H A at-mem run) → Walks 𝓤 H A deliver-at.ended stayed (WpFn 𝓤 H C Λ code.function) (deliver-at.clauses 𝓤 H A at-mem run)
   deliver-at-walks C Λ fm known = walked 𝓤 H A deliver-at.ended stayed (deliver-at.clauses 𝓤 H A at-mem run) (WpFn 𝓤 H C Λ code.function)
       (λ κs. (slice-vals, (uint-vals w64, (LL.vals P.the-type P′.the-laws, tt)))) (λ κs. (mut-slice-tells (named 0) (κs .0) R, (uint-tells w64, (LL.tells P.the-type P′.the-laws, tt))))
       (λ κs qs bounds a _ are. needs 𝓤 (a .1 .0 < length (a .0 .now)) _
       (walk 𝓤 H A W at-mem run (κs .0) (qs .0) (a .0 .ptr .0) (a .0 .ptr .1) (a .0 .name) (a .0 .now) (a .1 .0) (a .1 .1 .0) (are .1 .0 .1) (are .1 .1 .0) C Λ fm known (are .0 .0 .1)))
 
-deliver-at-meets : {M : Type 1} (𝓤 : URA M) (H : Heap 𝓤) (A : Atoms 𝓤) → Given 𝓤 H A → (at-mem : Memory → SProp 𝓤) (run : Routine → Fun 𝓤) (𝓣 : Tables 𝓤 H) → Triple 𝓤 (𝓣 .C #boxes·deliver) (Deliver 𝓤 H A at-mem run)
+deliver-at-meets : {M : Type 1} (𝓤 : URA M) (H : Heap 𝓤) (A : Atoms 𝓤) → Given 𝓤 H A → (at-mem : Memory → SProp 𝓤) (run : Routine → Fun 𝓤) (𝓣 : Tables 𝓤 H) → Triple 𝓤 (𝓣 .C #rows·deliver) (Deliver 𝓤 H A at-mem run)
     → Meets 𝓤 H A deliver-at.signature (WpFn 𝓤 H (𝓣 .C) (𝓣 .Λ) code.function) (deliver-at.spec 𝓤 H A at-mem run)
 deliver-at-meets 𝓤 H A W at-mem run 𝓣 known =
     walk-meets 𝓤 H A deliver-at.ended stayed W (goes-slice 𝓤 H A W 1 0 tt (plain (λ _. R)), (goes-none 𝓤 H A W 1 (λ _. usize) yes (λ κs x f. refl), (goes-none 𝓤 H A W 1 (λ _. P.the-row) yes (λ κs x f. refl), tt))) (deliver-at.clauses 𝓤 H A at-mem run)
@@ -189,6 +189,6 @@ pub deliver-at-spec : {M : Type 1} → stated.statement M
 unfolding code.routine tablesOf
 deliver-at-spec 𝓤 H 𝓜 𝓖 𝓡 =
     entered 𝓤 H (tripleOf 𝓤 H (𝓖 .A) deliver-at.signature (deliver-at.spec 𝓤 H (𝓖 .A) (𝓜 .mem) (𝓡 .run)))
-    (tables 𝓤 H 𝓜 𝓡 code.env .C) (tables 𝓤 H 𝓜 𝓡 code.env .Λ) #boxes·deliver-at code.function (code.unfolded 𝓤 H 𝓜 𝓡)
+    (tables 𝓤 H 𝓜 𝓡 code.env .C) (tables 𝓤 H 𝓜 𝓡 code.env .Λ) #rows·deliver-at code.function (code.unfolded 𝓤 H 𝓜 𝓡)
     (deliver-at-meets 𝓤 H (𝓖 .A) (givenOf 𝓤 H 𝓜 𝓖) (𝓜 .mem) (𝓡 .run) (tablesOf 𝓤 H 𝓜 (tables 𝓤 H 𝓜 𝓡 code.env))
-    (cited 𝓤 H (Deliver 𝓤 H (𝓖 .A) (𝓜 .mem) (𝓡 .run)) 𝓜 𝓡 code.env #boxes·deliver deliver-def.routine code.calls-boxes·deliver (deliver-thm.met 𝓤 H 𝓜 𝓖 𝓡)))
+    (cited 𝓤 H (Deliver 𝓤 H (𝓖 .A) (𝓜 .mem) (𝓡 .run)) 𝓜 𝓡 code.env #rows·deliver deliver-def.routine code.calls-rows·deliver (deliver-thm.met 𝓤 H 𝓜 𝓖 𝓡)))
