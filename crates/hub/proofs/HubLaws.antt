@@ -20,7 +20,7 @@ use Rattle.order.specs.Drain.{drained}
 use Rattle.order.specs.Sums.{sum-flat}
 use Rattle.order.specs.Sent.{sent-low}
 use Rattle.boxes.specs.Record.{boxOf, blank}
-use Rattle.turn.specs.declared.Turn.{Turn}
+use Rattle.turn.specs.Turn.{Turn}
 use Rattle.turns.specs.declared.Ran.{Ran as Own}
 use Rattle.turns.specs.Turns.{Going, ownDef}
 use Rattle.turns.specs.Parts.{ranOf}

@@ -65,7 +65,7 @@ unfolding takeList
 took-list s s′ hs ls i x k o y listed h p ek eo ey = rw (p .words, eo, ey, ek, p .answer)
 
 -- a list taken leaves one less in the queue
-pub one-less : (s : List ℕ) (i : ℕ) → length s ≡ 9216 → i < 256 → listAt s i ≡ true → suc (queued sixteen (taken sixteen s i) i) ≡ queued sixteen s i
+pub one-less : (s : List ℕ) (i : ℕ) → length s ≡ 9264 → i < 256 → listAt s i ≡ true → suc (queued sixteen (taken sixteen s i) i) ≡ queued sixteen s i
 unfolding waiting listAt
 one-less s i size here e =
     let some : 0 < queued sixteen s i = ltb-true 0 (queued sixteen s i) (and-both _ _ e .0) in
@@ -76,14 +76,14 @@ one-less s i size here e =
     sym (whole ∙ ap suc (sym rest))
 
 -- a turn of the loop that takes them
-pub lists-on : (i : ℕ) (g h : Got) → length (g .store) ≡ 9216 → i < 256 → listAt (g .store) i ≡ true → h ≡ takeList i g
+pub lists-on : (i : ℕ) (g h : Got) → length (g .store) ≡ 9264 → i < 256 → listAt (g .store) i ≡ true → h ≡ takeList i g
     → takeLists (queued sixteen (h .store) i) i h ≡ takeLists (queued sixteen (g .store) i) i g
 unfolding takeLists takeList
 lists-on i g h size here e t =
     ap (λ (z : Got). takeLists (queued sixteen (z .store) i) i z) t
     ∙ sym (ap (λ (n : ℕ). takeLists n i g) (sym (one-less (g .store) i size here e)) ∙ rw e)
 
-pub lists-less : (i : ℕ) (g h : Got) → length (g .store) ≡ 9216 → i < 256 → listAt (g .store) i ≡ true → h ≡ takeList i g
+pub lists-less : (i : ℕ) (g h : Got) → length (g .store) ≡ 9264 → i < 256 → listAt (g .store) i ≡ true → h ≡ takeList i g
     → queued sixteen (h .store) i < queued sixteen (g .store) i
 unfolding takeList
 lists-less i g h size here e t =

@@ -22,7 +22,7 @@ pub struct Counts {
 
 // One message joins wire i.
 fn post(store: &mut [u32], i: usize, word: u32, c: Counts) -> Counts
-    requires { ⌜ (length (now store) ≡ 9216) × (i < 256) ⌝ }
+    requires { ⌜ (length (now store) ≡ 9264) × (i < 256) ⌝ }
     ensures { λ r. ⌜ posted (now (store .exit)) r ≡ postWord i word (posted (now (store .entry)) c) ⌝ }
 {
     if wires::push(store, i, word) {
@@ -39,7 +39,7 @@ fn post(store: &mut [u32], i: usize, word: u32, c: Counts) -> Counts
 
 // "send Neighbors(K), ascending, for K in .."
 fn post_lists(store: &mut [u32], i: usize, origins: u16, known: &[u16; 16], c: Counts) -> Counts
-    requires { ⌜ (length (now store) ≡ 9216) × (i < 256) ⌝ }
+    requires { ⌜ (length (now store) ≡ 9264) × (i < 256) ⌝ }
     ensures { λ r. ⌜ posted (now (store .exit)) r ≡ postLists i origins (now (known .entry)) 16 (posted (now (store .entry)) c) ⌝ }
 {
     let mut q = c;
@@ -54,7 +54,7 @@ fn post_lists(store: &mut [u32], i: usize, origins: u16, known: &[u16; 16], c: C
 
 // NOTSPT with the set s joins wire i, where it is said.
 fn post_if(said: bool, store: &mut [u32], i: usize, s: u16, c: Counts) -> Counts
-    requires { ⌜ (length (now store) ≡ 9216) × (i < 256) ⌝ }
+    requires { ⌜ (length (now store) ≡ 9264) × (i < 256) ⌝ }
     ensures { λ r. ⌜ posted (now (store .exit)) r ≡ postIf said i s (posted (now (store .entry)) c) ⌝ }
 {
     if said {
@@ -76,7 +76,7 @@ pub struct Letter {
 
 // The lists are lent, since most letters carry none.
 pub fn post_link(store: &mut [u32], i: usize, l: Letter, known: &[u16; 16], c: Counts) -> Counts
-    requires { ⌜ (length (now store) ≡ 9216) × (i < 256) ⌝ }
+    requires { ⌜ (length (now store) ≡ 9264) × (i < 256) ⌝ }
     ensures { λ r. ⌜ posted (now (store .exit)) r ≡ postLink i l (now (known .entry)) (posted (now (store .entry)) c) ⌝ }
 {
     let first = post_if(l.wakes, store, i, l.own, c);
@@ -100,7 +100,7 @@ pub struct Gathered {
 
 // Whether a list stands at the head of the queue of wire i.
 fn list_at(store: &[u32], i: usize) -> bool
-    requires { ⌜ (length (now store) ≡ 9216) × (i < 256) ⌝ }
+    requires { ⌜ (length (now store) ≡ 9264) × (i < 256) ⌝ }
     ensures { λ r. ⌜ r ≡ listAt (now (store .entry)) i ⌝ }
 {
     if wires::queued(store, i) == 0 {
@@ -112,7 +112,7 @@ fn list_at(store: &[u32], i: usize) -> bool
 // "Some queue has a Neighbors message at its head: take it and save its list." The tables are lent, so that none is copied from link to link;
 // what a contract says here holds beside any heads hs and any links h that were heard.
 fn take_list(store: &mut [u32], i: usize, lists: &mut [u16; 16], listed: u16) -> u16
-    requires { ⌜ (length (now store) ≡ 9216) × (i < 256) ⌝ }
+    requires { ⌜ (length (now store) ≡ 9264) × (i < 256) ⌝ }
     ensures { λ r. ⌜ ((hs : List ℕ) (h : ℕ) → got (now (store .exit)) hs r (now (lists .exit)) h ≡ takeList i (got (now (store .entry)) hs listed (now (lists .entry)) h)) ⌝ }
 {
     let x = wires::take(store, i);
@@ -122,7 +122,7 @@ fn take_list(store: &mut [u32], i: usize, lists: &mut [u16; 16], listed: u16) ->
 }
 
 fn take_lists(store: &mut [u32], i: usize, lists: &mut [u16; 16], listed: u16) -> u16
-    requires { ⌜ (length (now store) ≡ 9216) × (i < 256) ⌝ }
+    requires { ⌜ (length (now store) ≡ 9264) × (i < 256) ⌝ }
     ensures { λ r. ⌜ ((hs : List ℕ) (h : ℕ) → got (now (store .exit)) hs r (now (lists .exit)) h ≡ takeLists (queued sixteen (now (store .entry)) i) i (got (now (store .entry)) hs listed (now (lists .entry)) h)) ⌝ }
 {
     let mut q = listed;
@@ -134,7 +134,7 @@ fn take_lists(store: &mut [u32], i: usize, lists: &mut [u16; 16], listed: u16) -
 
 // Link j is heard where its queue is not empty.
 fn hear(store: &[u32], i: usize, j: usize, heard: u16) -> u16
-    requires { ⌜ (length (now store) ≡ 9216) × ((i < 256) × (j < 16)) ⌝ }
+    requires { ⌜ (length (now store) ≡ 9264) × ((i < 256) × (j < 16)) ⌝ }
     ensures { λ r. ⌜ r ≡ cond (ltb 0 (queued sixteen (now (store .entry)) i)) (bitOr heard (2 ^ j)) heard ⌝ }
 {
     if wires::queued(store, i) == 0 {
@@ -158,7 +158,7 @@ fn gather_link(
     lists: &mut [u16; 16],
     f: Found,
 ) -> Found
-    requires { ⌜ (length (now store) ≡ 9216) × ((b < 16) × (j < 16)) ⌝ }
+    requires { ⌜ (length (now store) ≡ 9264) × ((b < 16) × (j < 16)) ⌝ }
     ensures { λ r. ⌜ got (now (store .exit)) (now (heads .exit)) (r .listed) (now (lists .exit)) (r .heard) ≡ gatherLink b j (got (now (store .entry)) (now (heads .entry)) (f .listed) (now (lists .entry)) (f .heard)) ⌝ }
 {
     let i = j * 16 + b;
@@ -174,7 +174,7 @@ fn gather_link(
 
 // All that a round of box b takes, ascending by link.
 pub fn gather(store: &mut [u32], b: usize, links: u16) -> Gathered
-    requires { ⌜ (length (now store) ≡ 9216) × (b < 16) ⌝ }
+    requires { ⌜ (length (now store) ≡ 9264) × (b < 16) ⌝ }
     ensures { λ r. ⌜ got (now (store .exit)) (r .heads) (r .listed) (r .lists) (r .heard) ≡ gatherTo b links 16 (gotNothing (now (store .entry))) ⌝ }
 {
     let mut heads: [u16; 16] = [0; 16];
@@ -201,7 +201,7 @@ pub fn gather(store: &mut [u32], b: usize, links: u16) -> Gathered
 
 // "A stopping box empties its queues."
 pub fn clear_all(store: &mut [u32], b: usize, links: u16)
-    requires { ⌜ (length (now store) ≡ 9216) × (b < 16) ⌝ }
+    requires { ⌜ (length (now store) ≡ 9264) × (b < 16) ⌝ }
     ensures { λ _. ⌜ now (store .exit) ≡ clearTo b links 16 (now (store .entry)) ⌝ }
 {
     let mut rest = links;

@@ -2,7 +2,7 @@
 -- the calls of a look come to. Assumes nothing.
 use Prim.Native.Nat.{ℕ, zero, suc, _+_, _*_, _-_, _^_, _<_, _≤_}
 use native.Mathlib.Omega.{arith}
-use mathlib.Core.Path.{_≡_, refl, sym, ap, _∙_}
+use mathlib.Core.Path.{_≡_, refl, sym, ap, _∙_, subst}
 use mathlib.Core.Bool.{Bool, true, false, not, _&&_, _||_, cond, true≢false}
 use mathlib.Core.List.{List}
 use lib.Bits.{bitOr}
@@ -15,13 +15,15 @@ use Rattle.wires.specs.Words.{isList}
 use Rattle.wires.specs.Wires.{sixteen, queued, underWay, arrived, oldest, front, skipped}
 use Rattle.boxes.specs.declared.Departure.{Departure}
 use Rattle.mail.specs.Gather.{wireOf}
-use Rattle.turn.specs.declared.Turn.{Turn}
+use Rattle.tables.specs.Tables.{linksOf, heardOf, busyOf, withHeard, withBusy}
+use Rattle.tables.proofs.Laws.{Same, arrived-same, skipped-same, same-links, same-heard, same-busy, heard-heard, busy-busy, links-heard, busy-heard, links-busy, heard-busy, put-length}
+use Rattle.turn.specs.declared.Carried.{Carried}
 use Rattle.turn.specs.declared.Pair.{Pair}
 use Rattle.turn.specs.declared.Receiver.{Receiver}
 use Rattle.pass.specs.declared.Glance.{Glance}
-use Rattle.turn.specs.Turn.{pairOf, nextPair, sleeps, quiet, begun, tookPair, Took, Put, nextTurn, putDef}
-use Rattle.turn.specs.Parts.{took, receiverFrom, receiverOf, quietTo, firstTo, deliveredTo, lessOf, leftAfter, atAfter, movedAfter}
-use Rattle.pass.specs.Pass.{Glanced, glanced, seenAs, glanceFirst, glanceTo, glancePair, kept, glanceAt, quietTurn, passOne, passTo, passAll}
+use Rattle.turn.specs.Turn.{Turn, turnOf, lessOf, pairOf, nextPair, sleeps, quiet, begun, tookPair, Took, Put, nextTurn, putDef}
+use Rattle.turn.specs.Parts.{took, receiverFrom, receiverOf, quietTo, firstTo, deliveredTo, leftAfter, atAfter, movedAfter}
+use Rattle.pass.specs.Pass.{Glanced, glanced, seenAs, glanceFirst, glanceTo, glancePair, kept, carriedOn, glanceAt, toAfter, quietTurn, quietStore, passOne, passTo, passAll}
 use Rattle.turn.proofs.Laws.{pick, delivered-is}
 
 -- ---- a look at a pair, and what the turn's definition takes for it
@@ -75,7 +77,7 @@ front-oldest : (s : List ℕ) (i : ℕ) → eqb (underWay sixteen s i) 0 ≡ fal
 unfolding front oldest
 front-oldest s i w q =
     let z : queued sixteen s i ≡ 0 = eqb-true _ _ q in
-    rw w (ap (λ (k : ℕ). word s (i * 36 + k)) (omega (arith, z)))
+    rw w (ap (λ (k : ℕ). word s (i * 36 + 48 + k)) (omega (arith, z)))
 
 glance-delivered : (r : Receiver) (a : ℕ) (s : List ℕ) → glanceTo r a s .glance .quiet ≡ true
     → deliveredTo r a s ≡ took (glanceTo r a s .store) (quietTo r a (glanceTo r a s .glance .moved) false (glanceTo r a s .glance .heard))
@@ -92,6 +94,27 @@ glance-still r a s e =
     let i : ℕ = wireOf a (r .own) in
     looked-still r a s (skipped sixteen s i) (arrived sixteen s i) (r .heard) (bitOr (r .heard) (2 ^ a)) (took s (quietTo r a false false 0)) (took s (quietTo r a false false 0))
     (eqb (underWay sixteen s i) 0) (r .stopped) (r .sleeps) (eqb (queued sixteen s i) 0) (isList (front sixteen s i)) (eqb (bitOr (r .heard) (2 ^ a)) (r .links)) e
+
+-- a look leaves the tables
+glance-same : (r : Receiver) (a : ℕ) (s : List ℕ) → Same s (glanceTo r a s .store)
+unfolding glanceTo glanceFirst
+glance-same r a s =
+    let i : ℕ = wireOf a (r .own) in
+    pick P (eqb (underWay sixteen s i) 0) still (pick P (r .stopped) (skipped-same s i) (pick P (r .sleeps) still (pick P (eqb (queued sixteen s i) 0)
+    (pick P (isList (front sixteen s i)) still (pick P (eqb (bitOr (r .heard) (2 ^ a)) (r .links)) still (arrived-same s i))) (arrived-same s i))))
+  where
+    P : Glanced → Type 0
+    P g = Same s (g .store)
+
+    still : Same s s
+    still k l = refl
+
+pair-same : (p : Pair) (r : Receiver) (s : List ℕ) → Same s (glancePair p r s .store)
+unfolding glancePair
+pair-same p r s = pick P (p .some) (pick P (eqb (p .«from») (r .own)) (λ k l. refl) (glance-same r (p .«from») s)) (λ k l. refl)
+  where
+    P : Glanced → Type 0
+    P g = Same s (g .store)
 
 -- by the pair
 pub pair-took : (c : Turn) (p : Pair) (s : List ℕ) (some same : Bool) → p .some ≡ some → eqb (p .«from») (p .to) ≡ same → glancePair p (receiverOf c (p .to)) s .glance .quiet ≡ true
@@ -228,50 +251,67 @@ module _ (p : Pair) (r : Receiver) (s : List ℕ) where
   at-none k n e = rw (n, e)
 
 -- the same of the whole state
-module _ (list s s′ : List ℕ) (q : Turn) (p : Pair) (r : Receiver) (k : Glance) (ep : p ≡ pairOf list (q .at) (q .pairs) (q .busy))
-    (er : r ≡ receiverFrom (p .to) (word (q .links) (p .to)) (word (q .heard) (p .to)) (q .awake) (q .stopped)) (eg : glanced s′ k ≡ glancePair p r s) where
-  pub looked-at : glanced s′ k ≡ glanceAt list (kept s q)
-  unfolding glanceAt nextPair receiverOf
-  looked-at = eg ∙ ap (λ (z : Receiver). glancePair p z s) er ∙ ap (λ (z : Pair). glancePair z (receiverFrom (z .to) (word (q .links) (z .to)) (word (q .heard) (z .to)) (q .awake) (q .stopped)) s) ep
+module _ (list s s′ : List ℕ) (q : Carried) (p : Pair) (r : Receiver) (k : Glance) (ep : p ≡ pairOf list (q .at) (q .pairs) (busyOf s))
+    (er : r ≡ receiverOf (turnOf q s) (p .to)) (eg : glanced s′ k ≡ glancePair p r s) where
+  abbrev t : Turn
+  t = turnOf q s
+
+  pub looked-at : glanced s′ k ≡ glanceAt list (carriedOn s q)
+  unfolding glanceAt nextPair
+  looked-at = eg ∙ ap (λ (z : Receiver). glancePair p z s) er ∙ ap (λ (z : Pair). glancePair z (receiverOf t (z .to)) s) ep
 
   -- a pair that would touch a record ends it
-  pub pass-ends : (s₀ : List ℕ) (c : Turn) → k .quiet ≡ false → passAll list (kept s q) ≡ passAll list (kept s₀ c) → kept s′ q ≡ passAll list (kept s₀ c)
-  pass-ends s₀ c n inv =
-      let no : glanceAt list (kept s q) .glance .quiet ≡ false = ap (λ (z : Glanced). z .glance .quiet) (sym looked-at) ∙ n in
-      let same : s′ ≡ s = ap (λ (z : Glanced). z .store) looked-at ∙ glance-keeps list (kept s q) no in
-      ap (λ (z : List ℕ). kept z q) same ∙ sym (pass-stops (q .left) list (kept s q) no) ∙ inv
+  pub pass-ends : (start : Put) → k .quiet ≡ false → passAll list (carriedOn s q) ≡ passAll list start → carriedOn s′ q ≡ passAll list start
+  pass-ends start n inv =
+      let no : glanceAt list (carriedOn s q) .glance .quiet ≡ false = ap (λ (z : Glanced). z .glance .quiet) (sym looked-at) ∙ n in
+      let same : s′ ≡ s = ap (λ (z : Glanced). z .store) looked-at ∙ glance-keeps list (carriedOn s q) no in
+      ap (λ (z : List ℕ). carriedOn z q) same ∙ sym (pass-stops (q .left) list (carriedOn s q) no) ∙ inv
 
-  abbrev onward : ℕ → ℕ → ℕ → ℕ → Turn
-  onward left at moved to = record {
-    left = left;
-    at = at;
-    pairs = q .pairs;
-    sent = q .sent;
-    moved = moved;
-    full = q .full;
-    awake = q .awake;
-    stopped = q .stopped;
-    links = q .links;
-    heard = set (q .heard) (p .to) (k .heard);
-    busy = set (q .busy) (p .«from») to;
-  }
+  abbrev onward : ℕ → ℕ → ℕ → Carried
+  onward left at moved = record { left = left; at = at; pairs = q .pairs; sent = q .sent; moved = moved; awake = q .awake; stopped = q .stopped; full = q .full }
 
-  pub pass-goes-on : (s₀ : List ℕ) (c : Turn) (left at moved to : ℕ) → 1 ≤ q .left → k .quiet ≡ true → passAll list (kept s q) ≡ passAll list (kept s₀ c)
-      → left ≡ leftAfter (q .left) (q .at) (q .pairs) (k .moved) → at ≡ atAfter (q .at) (q .pairs) → moved ≡ movedAfter (q .moved) (k .moved)
-      → to ≡ lessOf s′ (k .moved) (p .«from») (p .to) (word (q .busy) (p .«from»))
-      → passAll list (kept s′ (onward left at moved to)) ≡ passAll list (kept s₀ c)
-  unfolding passOne quietTurn nextPair
-  pass-goes-on s₀ c left at moved to some y inv el ea em et =
-      let yes : glanceAt list (kept s q) .glance .quiet ≡ true = ap (λ (z : Glanced). z .glance .quiet) (sym looked-at) ∙ y in
-      let one : kept s′ (onward left at moved to) ≡ passOne list (kept s q) = rw (← looked-at, ← ep, el, ea, em, et) in
-      ap (passAll list) one ∙ sym (pass-next list (kept s q) some yes) ∙ inv
+  module _ (size : length s′ ≡ 9264) (low-a : p .«from» < 16) (low-b : p .to < 16) (lh : k .heard < 65536) (to at-a : ℕ) (lt : to < 65536)
+      (ea : at-a ≡ word (busyOf s′) (p .«from»)) (et : to ≡ lessOf s′ (k .moved) (p .«from») (p .to) at-a) where
+    abbrev u : List ℕ
+    u = withHeard s′ (p .to) (k .heard)
+
+    abbrev v : List ℕ
+    v = withBusy u (p .«from») to
+
+    same : Same s s′
+    same = subst (Same s) (sym (ap (λ (z : Glanced). z .store) eg)) (pair-same p r s)
+
+    to-is : to ≡ toAfter t p k s′
+    to-is = et ∙ ap (lessOf s′ (k .moved) (p .«from») (p .to)) (ea ∙ ap (λ (z : List ℕ). word z (p .«from»)) (same-busy s s′ same))
+
+    links-is : linksOf v ≡ linksOf s
+    links-is = links-busy u (p .«from») to low-a ∙ links-heard s′ (p .to) (k .heard) low-b ∙ same-links s s′ same
+
+    heard-is : heardOf v ≡ set (heardOf s) (p .to) (k .heard)
+    heard-is = heard-busy u (p .«from») to low-a ∙ heard-heard s′ (p .to) (k .heard) size low-b lh ∙ ap (λ (z : List ℕ). set z (p .to) (k .heard)) (same-heard s s′ same)
+
+    busy-is : busyOf v ≡ set (busyOf s) (p .«from») to
+    busy-is =
+        busy-busy u (p .«from») to (put-length s′ (16 + p .to) (k .heard) ∙ size) low-a lt
+        ∙ ap (λ (z : List ℕ). set z (p .«from») to) (busy-heard s′ (p .to) (k .heard) low-b ∙ same-busy s s′ same)
+
+    pub pass-goes-on : (w : List ℕ) (start : Put) (left at moved : ℕ) → w ≡ v → 1 ≤ q .left → k .quiet ≡ true → passAll list (carriedOn s q) ≡ passAll list start
+        → left ≡ leftAfter (q .left) (q .at) (q .pairs) (k .moved) → at ≡ atAfter (q .at) (q .pairs) → moved ≡ movedAfter (q .moved) (k .moved)
+        → passAll list (carriedOn w (onward left at moved)) ≡ passAll list start
+    unfolding passOne quietTurn quietStore nextPair
+    pass-goes-on w start left at moved ew some y inv el ea em =
+        let yes : glanceAt list (carriedOn s q) .glance .quiet ≡ true = ap (λ (z : Glanced). z .glance .quiet) (sym looked-at) ∙ y in
+        let one : carriedOn v (onward left at moved) ≡ passOne list (carriedOn s q) = rw (← looked-at, ← ep, links-is, heard-is, busy-is, el, ea, em, ← to-is) in
+        ap (λ (z : List ℕ). passAll list (carriedOn z (onward left at moved))) ew ∙ ap (passAll list) one ∙ sym (pass-next list (carriedOn s q) some yes) ∙ inv
 
 -- ---- what goes out, and those that pass after it
 
-pub put-pairs : (s list : List ℕ) (o : Departure) (c n : Turn) → n ≡ putDef s o c .turn → c .pairs * 2 ≤ length list → n .pairs * 2 ≤ length list
+pub put-pairs : (s s′ list : List ℕ) (o : Departure) (c n : Carried) → turnOf n s′ ≡ putDef s o (turnOf c s) .turn → c .pairs * 2 ≤ length list → n .pairs * 2 ≤ length list
 unfolding putDef nextTurn
-put-pairs s list o c n e l = rw e l
+put-pairs s s′ list o c n e l = let z : n .pairs ≡ c .pairs = ap (λ (x : Turn). x .pairs) e in rw z l
 
-pub went-on : (list s s′ s″ : List ℕ) (o : Departure) (c n r : Turn) → n ≡ putDef s o c .turn → s′ ≡ putDef s o c .store → kept s″ r ≡ passAll list (kept s′ n)
-    → kept s″ r ≡ passAll list (putDef s o c)
-went-on list s s′ s″ o c n r et es e = e ∙ rw (et, es)
+pub went-on : (list s s′ s″ : List ℕ) (o : Departure) (c n r : Carried) → turnOf n s′ ≡ putDef s o (turnOf c s) .turn → s′ ≡ putDef s o (turnOf c s) .store
+    → carriedOn s″ r ≡ passAll list (carriedOn s′ n) → carriedOn s″ r ≡ passAll list (putDef s o (turnOf c s))
+went-on list s s′ s″ o c n r et es e =
+    let q : Put = putDef s o (turnOf c s) in
+    e ∙ ap (λ (z : Turn). passAll list (kept s′ z)) et ∙ ap (λ (z : List ℕ). passAll list (kept z (q .turn))) es

@@ -10,12 +10,13 @@ use Rattle.rules.specs.Sets.{word}
 use Rattle.wires.specs.Wires.{sixteen, queued, underWay, arrived, front, skipped}
 use Rattle.wires.specs.Words.{isList}
 use Rattle.mail.specs.Gather.{wireOf}
-use Rattle.turn.specs.declared.Turn.{Turn}
+use Rattle.tables.specs.Tables.{withHeard, withBusy}
+use Rattle.turn.specs.declared.Carried.{Carried}
 use Rattle.turn.specs.declared.Pair.{Pair}
 use Rattle.turn.specs.declared.Receiver.{Receiver}
 use Rattle.pass.specs.declared.Glance.{Glance}
-use Rattle.turn.specs.Turn.{nextPair, Put}
-use Rattle.turn.specs.Parts.{receiverOf, lessOf, leftAfter, atAfter, movedAfter}
+use Rattle.turn.specs.Turn.{Turn, turnOf, lessOf, nextPair, Put}
+use Rattle.turn.specs.Parts.{receiverOf, leftAfter, atAfter, movedAfter}
 
 -- ---- a look at a pair: the store after it, and what it shows
 
@@ -69,10 +70,17 @@ glancePair p r s =
 abbrev pub kept : List ℕ → Turn → Put
 kept s c = record { store = s; turn = c }
 
+-- the same, what code carries by value beside the store that has its tables
+abbrev pub carriedOn : List ℕ → Carried → Put
+carriedOn s c = kept s (turnOf c s)
+
 unfoldable pub glanceAt : List ℕ → Put → Glanced
 glanceAt list q = let p = nextPair list (q .turn) in glancePair p (receiverOf (q .turn) (p .to)) (q .store)
 
--- s is the store after the look
+-- the receivers that the sender still has messages under way to; s is the store after the look
+abbrev pub toAfter : Turn → Pair → Glance → List ℕ → ℕ
+toAfter c p k s = lessOf s (k .moved) (p .«from») (p .to) (word (c .busy) (p .«from»))
+
 unfoldable pub quietTurn : Turn → Pair → Glance → List ℕ → Turn
 quietTurn c p k s = record {
   left = leftAfter (c .left) (c .at) (c .pairs) (k .moved);
@@ -85,11 +93,19 @@ quietTurn c p k s = record {
   stopped = c .stopped;
   links = c .links;
   heard = set (c .heard) (p .to) (k .heard);
-  busy = set (c .busy) (p .«from») (lessOf s (k .moved) (p .«from») (p .to) (word (c .busy) (p .«from»)));
+  busy = set (c .busy) (p .«from») (toAfter c p k s);
 }
 
+-- the tables in the store
+unfoldable pub quietStore : Turn → Pair → Glance → List ℕ → List ℕ
+quietStore c p k s = withBusy (withHeard s (p .to) (k .heard)) (p .«from») (toAfter c p k s)
+
 unfoldable pub passOne : List ℕ → Put → Put
-passOne list q = let k = glanceAt list q in kept (k .store) (quietTurn (q .turn) (nextPair list (q .turn)) (k .glance) (k .store))
+passOne list q =
+    let c = q .turn in
+    let p = nextPair list c in
+    let k = glanceAt list q in
+    kept (quietStore c p (k .glance) (k .store)) (quietTurn c p (k .glance) (k .store))
 
 -- at most n of them, while turns are left
 unfoldable pub passTo : ℕ → List ℕ → Put → Put

@@ -2,12 +2,12 @@
 ghost use mathlib.Core.Path.{_≡_};
 ghost use Prim.Native.Nat.{_*_, _<_, _≤_};
 ghost use lib.ListN.{length};
-ghost use Rattle.turn.specs.Turn.{putDef};
-ghost use Rattle.pass.specs.Pass.{seenAs, glanced, glanceFirst, glanceTo, glancePair, kept, passAll};
+ghost use Rattle.turn.specs.Turn.{turnOf, putDef};
+ghost use Rattle.pass.specs.Pass.{seenAs, glanced, glanceFirst, glanceTo, glancePair, carriedOn, passAll};
 use boxes::Departure;
+use turn::Carried;
 use turn::Pair;
 use turn::Receiver;
-use turn::Turn;
 
 // ---- a look at a pair
 
@@ -30,7 +30,7 @@ fn seen(quiet: bool, moved: bool, heard: u16) -> Glance
 
 // The queue of the wire from a is empty, and the box is awake: a set that completes no round only waits.
 fn look_first(store: &mut [u32], r: Receiver, a: usize) -> Glance
-    requires { ⌜ (length (now store) ≡ 9216) × ((a < 16) × (r .own < 16)) ⌝ }
+    requires { ⌜ (length (now store) ≡ 9264) × ((a < 16) × (r .own < 16)) ⌝ }
     ensures { λ k. ⌜ glanced (now (store .exit)) k ≡ glanceFirst r a (now (store .entry)) ⌝ }
 {
     let i = a * 16 + r.own;
@@ -47,7 +47,7 @@ fn look_first(store: &mut [u32], r: Receiver, a: usize) -> Glance
 
 // The oldest message from a is moved where that touches no record; else nothing is done.
 fn look(store: &mut [u32], r: Receiver, a: usize) -> Glance
-    requires { ⌜ (length (now store) ≡ 9216) × ((a < 16) × (r .own < 16)) ⌝ }
+    requires { ⌜ (length (now store) ≡ 9264) × ((a < 16) × (r .own < 16)) ⌝ }
     ensures { λ k. ⌜ glanced (now (store .exit)) k ≡ glanceTo r a (now (store .entry)) ⌝ }
 {
     let i = a * 16 + r.own;
@@ -70,7 +70,7 @@ fn look(store: &mut [u32], r: Receiver, a: usize) -> Glance
 
 // A box that has started starts no more; where the search finds no wire, the run is over.
 fn look_at(store: &mut [u32], p: Pair, r: Receiver) -> Glance
-    requires { ⌜ (length (now store) ≡ 9216) × ((p .«from» < 16) × (r .own < 16)) ⌝ }
+    requires { ⌜ (length (now store) ≡ 9264) × ((p .«from» < 16) × (r .own < 16)) ⌝ }
     ensures { λ k. ⌜ glanced (now (store .exit)) k ≡ glancePair p r (now (store .entry)) ⌝ }
 {
     if p.some {
@@ -85,22 +85,29 @@ fn look_at(store: &mut [u32], p: Pair, r: Receiver) -> Glance
 // ---- such turns
 
 // As many turns as touch no record, one after the other: most turns of a run, with no step and no table copied.
-fn pass(store: &mut [u32], list: &[u8], c: Turn) -> Turn
-    requires { ⌜ (length (now store) ≡ 9216) × (c .pairs * 2 ≤ length (now list)) ⌝ }
-    ensures { λ r. ⌜ kept (now (store .exit)) r ≡ passAll (now (list .entry)) (kept (now (store .entry)) c) ⌝ }
+fn pass(store: &mut [u32], list: &[u8], c: Carried) -> Carried
+    requires { ⌜ (length (now store) ≡ 9264) × (c .pairs * 2 ≤ length (now list)) ⌝ }
+    ensures { λ r. ⌜ carriedOn (now (store .exit)) r ≡ passAll (now (list .entry)) (carriedOn (now (store .entry)) c) ⌝ }
 {
     let mut q = c;
     while 0 < q.left {
-        let p = turn::next_pair(list, q.at, q.pairs, &q.busy);
+        let p = turn::next_pair(list, q.at, q.pairs, store);
         let a = p.from;
         let b = p.to;
-        let r = turn::receiver_of(b, q.links[b], q.heard[b], q.awake, q.stopped);
+        let r = turn::receiver_of(
+            b,
+            tables::links_of(store, b),
+            tables::heard_of(store, b),
+            q.awake,
+            q.stopped,
+        );
         let k = look_at(store, p, r);
         if !k.quiet {
             return q;
         }
-        q.heard[b] = k.heard;
-        q.busy[a] = sends::less_busy(store, k.moved, a, b, q.busy[a]);
+        let to = sends::less_busy(store, k.moved, a, b, tables::busy_of(store, a));
+        tables::set_heard(store, b, k.heard);
+        tables::set_busy(store, a, to);
         q.moved = sends::moved_after(q.moved, k.moved);
         q.left = sends::left_after(q.left, q.at, q.pairs, k.moved);
         q.at = sends::at_after(q.at, q.pairs);
@@ -109,9 +116,9 @@ fn pass(store: &mut [u32], list: &[u8], c: Turn) -> Turn
 }
 
 // What goes out, and the turns after it that touch no record.
-pub fn go_on(store: &mut [u32], list: &[u8], o: Departure, c: Turn) -> Turn
-    requires { ⌜ (length (now store) ≡ 9216) × ((1 ≤ c .left) × (c .pairs * 2 ≤ length (now list))) ⌝ }
-    ensures { λ r. ⌜ kept (now (store .exit)) r ≡ passAll (now (list .entry)) (putDef (now (store .entry)) o c) ⌝ }
+pub fn go_on(store: &mut [u32], list: &[u8], o: Departure, c: Carried) -> Carried
+    requires { ⌜ (length (now store) ≡ 9264) × ((1 ≤ c .left) × (c .pairs * 2 ≤ length (now list))) ⌝ }
+    ensures { λ r. ⌜ carriedOn (now (store .exit)) r ≡ passAll (now (list .entry)) (putDef (now (store .entry)) o (turnOf c (now (store .entry)))) ⌝ }
 {
     let n = sends::put(store, o, c);
     pass(store, list, n)

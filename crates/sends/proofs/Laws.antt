@@ -1,26 +1,31 @@
 -- What the calls of a turn's last part come to in their definitions: each law takes what the callees promise, and gives what the function promises.
 -- Assumes nothing.
-use Prim.Native.Nat.{ℕ, zero, suc, _%_, _^_}
-use mathlib.Core.Path.{_≡_, refl, sym, ap, _∙_}
+use Prim.Native.Nat.{ℕ, zero, suc, _+_, _%_, _^_, _<_}
+use native.Mathlib.Omega.{arith}
+use mathlib.Core.Path.{_≡_, refl, sym, ap, _∙_, subst}
 use mathlib.Core.Bool.{Bool, true, false, _&&_, _||_, cond}
 use mathlib.Core.List.{List, [], _∷_}
 use lib.Bits.{bitOr}
 use lib.Dec.{eqb}
-use lib.ListN.{getD, set}
+use lib.ListN.{length, getD, set}
 use borrow.Author.Tests.{ne-eqb}
 use Rattle.rules.specs.Sets.{without, word}
 use Rattle.sets.specs.Mem.{or-neither}
 use Rattle.sets.specs.Loops.{forEach-keeps}
 use Rattle.wires.specs.Wires.{sixteen, underWay}
+use Rattle.tables.specs.Tables.{linksOf, heardOf, busyOf, withHeard, withBusy}
+use Rattle.tables.proofs.Laws.{Same, same-trans, same-links, same-heard, same-busy, heard-heard, busy-busy, links-heard, busy-heard, links-busy, heard-busy, put-length}
 use Rattle.boxes.specs.declared.Departure.{Departure}
 use Rattle.mail.specs.declared.Letter.{Letter}
 use Rattle.mail.specs.declared.Counts.{Counts}
 use Rattle.mail.specs.Post.{Posted, postIf}
 use Rattle.mail.specs.Letter.{posted, postLink}
 use Rattle.mail.specs.Gather.{wireOf, clearTo}
-use Rattle.turn.specs.declared.Turn.{Turn}
-use Rattle.turn.specs.Turn.{letter, postTo, lessBusy, moreBusy, ends, nextTurn, putDef}
-use Rattle.turn.specs.Parts.{lessOf, leftAfter, atAfter, movedAfter}
+use Rattle.turn.specs.declared.Carried.{Carried}
+use Rattle.turn.specs.Turn.{Turn, turnOf, lessOf, letter, postTo, lessBusy, moreBusy, ends, keptTables, nextTurn, putDef}
+use Rattle.turn.specs.Parts.{Kept, leftAfter, atAfter, movedAfter}
+use Rattle.turn.proofs.Laws.{pick}
+use Rattle.turn.proofs.Tables.{clear-same, post-same}
 
 -- ---- what goes out
 
@@ -66,61 +71,83 @@ pub set-if : (b : Bool) (t : List ℕ) (k x : ℕ) → cond b (set t k x) t ≡ 
 set-if true t k x = refl
 set-if false t k x = sym (set-same t k 0)
 
--- the state that the code leaves: of each part what the code has there
-abbrev left-turn : Turn → Departure → Counts → ℕ → ℕ → ℕ → ℕ → ℕ → ℕ → ℕ → ℕ → Turn
-left-turn c o p left at moved awake stopped heard to more = record {
-  left = left;
-  at = at;
-  pairs = c .pairs;
-  sent = p .sent;
-  moved = moved;
-  full = p .full;
-  awake = awake;
-  stopped = stopped;
-  links = c .links;
-  heard = set (c .heard) (o .own % 16) heard;
-  busy = set (set (c .busy) (o .«from» % 16) to) (o .own % 16) more;
-}
+-- the tables, as the code leaves them
+module _ (o : Departure) (links to : ℕ) (s : List ℕ) (size : length s ≡ 9264) (h : ℕ) (eh : h ≡ cond (ends o) 0 (o .heard)) (lh : h < 65536) (lt : to < 65536) where
+  abbrev a : ℕ
+  a = o .«from» % 16
 
--- and what that comes to, ended and sends being the code's tests
-abbrev came-to : Turn → Departure → Counts → ℕ → Bool → Bool → Turn
-came-to c o p to ended sends =
-    let b = o .own % 16 in
-    left-turn c o p
-    (leftAfter (c .left) (c .at) (c .pairs) (o .moved))
-    (atAfter (c .at) (c .pairs))
-    (movedAfter (c .moved) (o .moved))
-    (cond ended (without (c .awake) (2 ^ b)) (cond (o .wakes) (bitOr (c .awake) (2 ^ b)) (c .awake)))
-    (cond ended (bitOr (c .stopped) (2 ^ b)) (c .stopped))
-    (cond ended 0 (o .heard))
-    to
-    (let busy = set (c .busy) (o .«from» % 16) to in cond sends (bitOr (word busy b) (word (c .links) b)) (word busy b))
+  abbrev b : ℕ
+  b = o .own % 16
 
-put-turn : (s s′ : List ℕ) (o : Departure) (c : Turn) (to : ℕ) (p : Counts) → to ≡ lessOf s (o .moved) (o .«from» % 16) (o .own % 16) (word (c .busy) (o .«from» % 16))
-    → came-to c o p to (ends o) (o .wakes || o .round) ≡ nextTurn c o s (posted s′ p)
-unfolding nextTurn moreBusy lessBusy
-put-turn s s′ o c to p e = rw (e, set-if, set-if)
+  abbrev u : List ℕ
+  u = withHeard s b h
 
-module _ (s s₁ s₂ : List ℕ) (o : Departure) (c : Turn) (p : Counts) (to : ℕ) (ended sends : Bool)
-    (et : to ≡ lessOf s (o .moved) (o .«from» % 16) (o .own % 16) (word (c .busy) (o .«from» % 16)))
-    (en : ended ≡ o .stops && (o .wakes || o .round)) (es : sends ≡ o .wakes || o .round)
-    (e₁ : s₁ ≡ cond ended (clearTo (o .own % 16) (word (c .links) (o .own % 16)) 16 s) s)
-    (e₂ : posted s₂ p ≡ postTo o (word (c .links) (o .own % 16)) 16 (record { store = s₁; sent = c .sent; full = c .full })) where
-  put-whole : (came-to c o p to ended sends ≡ putDef s o c .turn) × (s₂ ≡ putDef s o c .store)
-  unfolding putDef ends
-  put-whole =
-      let b : ℕ = o .own % 16 in
-      let links : ℕ = word (c .links) b in
-      let cut : s₁ ≡ cond (ends o) (clearTo b links 16 s) s = e₁ ∙ ap (λ (z : Bool). cond z (clearTo b links 16 s) s) en in
-      let all = e₂ ∙ ap (λ (z : List ℕ). postTo o links 16 (record { store = z; sent = c .sent; full = c .full })) cut in (
-        ap (λ (z : Bool). came-to c o p to z sends) en ∙ ap (λ (z : Bool). came-to c o p to (ends o) z) es ∙ put-turn s s₂ o c to p et ∙ ap (nextTurn c o s) all,
-        ap (λ (q : Posted). q .store) all,
-      )
+  abbrev v : List ℕ
+  v = withBusy u a to
 
-  pub put-is : (left at moved awake stopped heard more : ℕ) → left ≡ leftAfter (c .left) (c .at) (c .pairs) (o .moved) → at ≡ atAfter (c .at) (c .pairs)
+  low-a : a < 16
+  low-a = omega arith
+
+  low-b : b < 16
+  low-b = omega arith
+
+  size-u : length u ≡ 9264
+  size-u = put-length s (16 + b) h ∙ size
+
+  v-links : linksOf v ≡ linksOf s
+  v-links = links-busy u a to low-a ∙ links-heard s b h low-b
+
+  v-heard : heardOf v ≡ set (heardOf s) b (cond (ends o) 0 (o .heard))
+  v-heard = heard-busy u a to low-a ∙ heard-heard s b h size low-b lh ∙ ap (set (heardOf s) b) eh
+
+  v-busy : busyOf v ≡ set (busyOf s) a to
+  v-busy = busy-busy u a to size-u low-a lt ∙ ap (λ (z : List ℕ). set z a to) (busy-heard s b h low-b)
+
+  pub keeps-still : o .wakes || o .round ≡ false → Kept o links to s v
+  unfolding keptTables moreBusy
+  keeps-still e = record { words = rw (e, eh); same = v-links; heard = v-heard; busy = rw e v-busy }
+
+  pub keeps-sent : (x y : ℕ) → o .wakes || o .round ≡ true → x ≡ word (busyOf v) b → y ≡ bitOr x links → y < 65536 → Kept o links to s (withBusy v b y)
+  unfolding keptTables moreBusy
+  keeps-sent x y e ex ey l =
+      let z : y ≡ bitOr (word (busyOf v) b) links = ey ∙ ap (λ (k : ℕ). bitOr k links) ex in
+      record {
+        words = rw (e, ← eh, ← z);
+        same = links-busy v b y low-b ∙ v-links;
+        heard = heard-busy v b y low-b ∙ v-heard;
+        busy = rw e (busy-busy v b y (put-length u (32 + a) to ∙ size-u) low-b l ∙ ap (λ (k : ℕ). set (busyOf v) b k) z ∙ ap (λ (k : List ℕ). set k b (bitOr (word k b) links)) v-busy);
+      }
+
+module _ (s s₁ s₂ s₃ : List ℕ) (o : Departure) (c : Carried) (p : Counts) (links at-a to : ℕ) (ended : Bool)
+    (el : links ≡ word (linksOf s) (o .own % 16)) (ea : at-a ≡ word (busyOf s) (o .«from» % 16))
+    (et : to ≡ lessOf s (o .moved) (o .«from» % 16) (o .own % 16) at-a)
+    (en : ended ≡ o .stops && (o .wakes || o .round))
+    (e₁ : s₁ ≡ cond ended (clearTo (o .own % 16) links 16 s) s)
+    (e₂ : posted s₂ p ≡ postTo o links 16 (record { store = s₁; sent = c .sent; full = c .full }))
+    (e₃ : Kept o links to s₂ s₃) where
+  abbrev t : Turn
+  t = turnOf c s
+
+  -- what goes out leaves the tables
+  same-out : Same s s₂
+  same-out = subst (Same s) (sym (ap (λ (q : Posted). q .store) e₂)) (same-trans s s₁ _ (subst (Same s) (sym e₁) (pick (Same s) ended (clear-same (o .own % 16) links 16 s) (λ k l. refl))) (post-same o links 16 _))
+
+  sent-out : posted s₂ p ≡ (let b = o .own % 16 in let l = word (t .links) b in postTo o l 16 (record { store = cond (ends o) (clearTo b l 16 s) s; sent = c .sent; full = c .full }))
+  unfolding ends
+  sent-out = rw (← el, ← en, ← e₁) e₂
+
+  pub put-store : s₃ ≡ putDef s o t .store
+  unfolding putDef
+  put-store = e₃ .words ∙ rw (et, ea, el, ← sent-out)
+
+  pub put-turn : (left at moved awake stopped : ℕ) → left ≡ leftAfter (c .left) (c .at) (c .pairs) (o .moved) → at ≡ atAfter (c .at) (c .pairs)
       → moved ≡ movedAfter (c .moved) (o .moved)
       → awake ≡ cond ended (without (c .awake) (2 ^ (o .own % 16))) (cond (o .wakes) (bitOr (c .awake) (2 ^ (o .own % 16))) (c .awake))
-      → stopped ≡ cond ended (bitOr (c .stopped) (2 ^ (o .own % 16))) (c .stopped) → heard ≡ cond ended 0 (o .heard)
-      → more ≡ cond sends (bitOr (word (set (c .busy) (o .«from» % 16) to) (o .own % 16)) (word (c .links) (o .own % 16))) (word (set (c .busy) (o .«from» % 16) to) (o .own % 16))
-      → (left-turn c o p left at moved awake stopped heard to more ≡ putDef s o c .turn) × (s₂ ≡ putDef s o c .store)
-  put-is left at moved awake stopped heard more el ea em ew ep eh eb = (rw (el, ea, em, ew, ep, eh, eb) (put-whole .0), put-whole .1)
+      → stopped ≡ cond ended (bitOr (c .stopped) (2 ^ (o .own % 16))) (c .stopped)
+      → turnOf (record { left = left; at = at; pairs = c .pairs; sent = p .sent; moved = moved; awake = awake; stopped = stopped; full = p .full }) s₃ ≡ putDef s o t .turn
+  unfolding putDef nextTurn lessBusy ends
+  put-turn left at moved awake stopped xl xa xm xw xs =
+      let ls : linksOf s₃ ≡ linksOf s = e₃ .same ∙ same-links s s₂ same-out in
+      let hs : heardOf s₃ ≡ set (heardOf s) (o .own % 16) (cond ended 0 (o .heard)) = e₃ .heard ∙ rw (same-heard s s₂ same-out, ← en) in
+      let bs : busyOf s₃ ≡ moreBusy o links (set (busyOf s) (o .«from» % 16) to) = e₃ .busy ∙ rw (same-busy s s₂ same-out) in
+      rw (ls, hs, bs, xl, xa, xm, xw, xs, ← sent-out, ← en, el, et, ea, set-if)

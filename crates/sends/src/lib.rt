@@ -7,18 +7,18 @@ ghost use lib.ListN.{length};
 ghost use Rattle.rules.specs.Sets.{without};
 ghost use Rattle.mail.specs.Gather.{clearTo};
 ghost use Rattle.mail.specs.Letter.{posted};
-ghost use Rattle.turn.specs.Turn.{postTo, putDef};
-ghost use Rattle.turn.specs.Parts.{lessOf, leftAfter, atAfter, movedAfter};
+ghost use Rattle.turn.specs.Turn.{turnOf, lessOf, postTo, ends, putDef};
+ghost use Rattle.turn.specs.Parts.{Kept, leftAfter, atAfter, movedAfter};
 use boxes::Departure;
 use mail::Counts;
 use mail::Letter;
-use turn::Turn;
+use turn::Carried;
 
 // ---- what goes out
 
 // To every link, ascending.
 fn post_each(store: &mut [u32], o: Departure, links: u16, c: Counts) -> Counts
-    requires { ⌜ length (now store) ≡ 9216 ⌝ }
+    requires { ⌜ length (now store) ≡ 9264 ⌝ }
     ensures { λ r. ⌜ posted (now (store .exit)) r ≡ postTo o links 16 (posted (now (store .entry)) c) ⌝ }
 {
     let b = o.own % 16;
@@ -43,7 +43,7 @@ fn post_each(store: &mut [u32], o: Departure, links: u16, c: Counts) -> Counts
 
 // A box that neither wakes nor does a round sends nothing: most turns end here, with no table touched.
 fn post_all(store: &mut [u32], o: Departure, links: u16, c: Counts) -> Counts
-    requires { ⌜ length (now store) ≡ 9216 ⌝ }
+    requires { ⌜ length (now store) ≡ 9264 ⌝ }
     ensures { λ r. ⌜ posted (now (store .exit)) r ≡ postTo o links 16 (posted (now (store .entry)) c) ⌝ }
 {
     if sends(o.wakes, o.round) {
@@ -76,7 +76,7 @@ fn stopping(stops: bool, wakes: bool, round: bool) -> bool
 
 // "A stopping box empties its queues."
 fn clear_ended(store: &mut [u32], ended: bool, b: usize, links: u16)
-    requires { ⌜ (length (now store) ≡ 9216) × (b < 16) ⌝ }
+    requires { ⌜ (length (now store) ≡ 9264) × (b < 16) ⌝ }
     ensures { λ _. ⌜ now (store .exit) ≡ cond ended (clearTo b links 16 (now (store .entry))) (now (store .entry)) ⌝ }
 {
     if ended {
@@ -86,23 +86,13 @@ fn clear_ended(store: &mut [u32], ended: bool, b: usize, links: u16)
 
 // The receivers that the sender still has messages under way to: not b, once its last message was moved.
 pub fn less_busy(store: &[u32], moved: bool, a: usize, b: usize, to: u16) -> u16
-    requires { ⌜ (length (now store) ≡ 9216) × ((a < 16) × (b < 16)) ⌝ }
+    requires { ⌜ (length (now store) ≡ 9264) × ((a < 16) × (b < 16)) ⌝ }
     ensures { λ r. ⌜ r ≡ lessOf (now (store .entry)) moved a b to ⌝ }
 {
     if moved {
         if wires::under_way(store, a * 16 + b) == 0 {
             return sets::minus(to, sets::only(b));
         }
-    }
-    to
-}
-
-// A box that sends has messages under way to each of its links.
-fn more_busy(sends: bool, links: u16, to: u16) -> u16
-    ensures { λ r. ⌜ r ≡ cond sends (bitOr to links) to ⌝ }
-{
-    if sends {
-        return to | links;
     }
     to
 }
@@ -161,31 +151,44 @@ fn heard_after(ended: bool, heard: u16) -> u16
     if ended { 0 } else { heard }
 }
 
-// What goes out, and the next turn's state, which is this one's where it stands.
-pub fn put(store: &mut [u32], o: Departure, c: Turn) -> Turn
-    requires { ⌜ (length (now store) ≡ 9216) × (1 ≤ c .left) ⌝ }
-    ensures { λ r. ⌜ (r ≡ putDef (now (store .entry)) o c .turn) × (now (store .exit) ≡ putDef (now (store .entry)) o c .store) ⌝ }
+// What is carried in the tables: the receiver has heard what it has, and what the sender and a box that sends have under way.
+fn keep_tables(store: &mut [u32], o: Departure, ended: bool, links: u16, to: u16)
+    requires { ⌜ (length (now store) ≡ 9264) × (ended ≡ ends o) ⌝ }
+    ensures { λ _. ⌜ Kept o links to (now (store .entry)) (now (store .exit)) ⌝ }
+{
+    let b = o.own % 16;
+    tables::set_heard(store, b, heard_after(ended, o.heard));
+    tables::set_busy(store, o.from % 16, to);
+    if sends(o.wakes, o.round) {
+        tables::set_busy(store, b, tables::busy_of(store, b) | links);
+    }
+}
+
+// What goes out, and what is carried to the next turn.
+pub fn put(store: &mut [u32], o: Departure, c: Carried) -> Carried
+    requires { ⌜ (length (now store) ≡ 9264) × (1 ≤ c .left) ⌝ }
+    ensures { λ r. ⌜ (turnOf r (now (store .exit)) ≡ putDef (now (store .entry)) o (turnOf c (now (store .entry))) .turn) × (now (store .exit) ≡ putDef (now (store .entry)) o (turnOf c (now (store .entry))) .store) ⌝ }
 {
     let a = o.from % 16;
     let b = o.own % 16;
     let ended = stopping(o.stops, o.wakes, o.round);
-    let mut n = c;
-    let links = n.links[b];
-    n.heard[b] = heard_after(ended, o.heard);
-    n.busy[a] = less_busy(store, o.moved, a, b, n.busy[a]);
-    n.busy[b] = more_busy(sends(o.wakes, o.round), links, n.busy[b]);
+    let links = tables::links_of(store, b);
+    let to = less_busy(store, o.moved, a, b, tables::busy_of(store, a));
     clear_ended(store, ended, b, links);
     let first = Counts {
         sent: c.sent,
         full: c.full,
     };
     let p = post_all(store, o, links, first);
-    n.left = left_after(c.left, c.at, c.pairs, o.moved);
-    n.at = at_after(c.at, c.pairs);
-    n.sent = p.sent;
-    n.moved = moved_after(c.moved, o.moved);
-    n.full = p.full;
-    n.awake = awake_after(c.awake, b, ended, o.wakes);
-    n.stopped = stopped_after(c.stopped, b, ended);
-    n
+    keep_tables(store, o, ended, links, to);
+    Carried {
+        left: left_after(c.left, c.at, c.pairs, o.moved),
+        at: at_after(c.at, c.pairs),
+        pairs: c.pairs,
+        sent: p.sent,
+        moved: moved_after(c.moved, o.moved),
+        awake: awake_after(c.awake, b, ended, o.wakes),
+        stopped: stopped_after(c.stopped, b, ended),
+        full: p.full,
+    }
 }

@@ -34,8 +34,7 @@ use Rattle.boxes.specs.Record.{boxOf, recordOf, blank}
 use Rattle.boxes.specs.Step.{stepDef, woken, taken, saved, saveAll, isStopped}
 use Rattle.boxes.specs.Laws.{saved-none, saved-stopped, saved-awake, taken-hop, taken-neighbors, woken-yes, woken-no}
 use Rattle.mail.specs.Gather.{Got, gotNothing, wireOf, gatherTo, clearTo}
-use Rattle.turn.specs.declared.Turn.{Turn}
-use Rattle.turn.specs.Turn.{Took, sleeps as sleepsNow, quiet, oneList, roundOf, tookRound, tookFirst, delivered as deliveredNow, begun, heardAt, putDef, ends}
+use Rattle.turn.specs.Turn.{Turn, Took, sleeps as sleepsNow, quiet, oneList, roundOf, tookRound, tookFirst, delivered as deliveredNow, begun, heardAt, putDef, ends}
 use Rattle.turns.specs.Turns.{Going}
 use Rattle.shows.specs.Held.{wordsOf, heldOf, holdsBoth, Held, wire-lt, wire-other, length-words}
 use Rattle.shows.specs.Lists.{saved-more, saved-nothing}

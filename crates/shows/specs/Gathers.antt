@@ -72,7 +72,7 @@ module _ (i : ℕ) (here : i < 256) where
         at = L .off (wordOf m) (wordsOf q) (ap (λ (x : Waiting). x .queue) (Q .at)) ∙ ap (λ (x : Waiting). holdsBoth (wordsOf q) (x .way)) (Q .at);
       }
 
-  taken-others : (s : List ℕ) → length s ≡ 9216 → Others sixteen s i (taken sixteen s i)
+  taken-others : (s : List ℕ) → length s ≡ 9264 → Others sixteen s i (taken sixteen s i)
   taken-others s e = take-law sixteen sixteen-proper s i e here .others
 
   -- ---- is a list at the head
@@ -117,7 +117,7 @@ module _ (i : ℕ) (here : i < 256) where
   unfolding takeList
   one-size g e = length-set (g .lists) _ _ ∙ e
 
-  one-others : (g : Got) → length (g .store) ≡ 9216 → Others sixteen (g .store) i ((takeList i g) .store)
+  one-others : (g : Got) → length (g .store) ≡ 9264 → Others sixteen (g .store) i ((takeList i g) .store)
   unfolding takeList
   one-others g e = taken-others (g .store) e
 

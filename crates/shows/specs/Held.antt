@@ -2,7 +2,7 @@
 -- Assumes nothing.
 use Prim.Native.Nat.{ℕ, zero, suc, _+_, _*_, _%_, _^_, _≤_, _<_}
 use mathlib.Core.Path.{_≡_, refl, sym, ap, ap₂, _∙_}
-use mathlib.Core.Bool.{Bool, true, false, cond, true≢false}
+use mathlib.Core.Bool.{Bool, true, false, cond, true≢false, _||_}
 use mathlib.Core.List.{List, [], _∷_, _++_, map}
 use mathlib.Core.Logic.{_⊎_, inl, inr, ⊎-elim, _≢_}
 use native.Mathlib.Omega.{arith}
@@ -13,7 +13,12 @@ use Rattle.rules.specs.Box.{Msg}
 use Rattle.rules.specs.Hub.{Wire, Hub}
 use Rattle.wires.specs.Wires.{sixteen, Waiting, waiting, Formed, Others}
 use Rattle.wires.specs.Words.{wordOf}
+use Rattle.tables.specs.Tables.{withEntry, withHeard, withBusy}
+use Rattle.tables.proofs.Laws.{put-waits, put-formed}
+use Rattle.boxes.specs.declared.Departure.{Departure}
 use Rattle.mail.specs.Gather.{wireOf}
+use Rattle.turn.specs.Turn.{keptTables, ends}
+use Rattle.turn.proofs.Laws.{pick}
 
 -- the words of a wire's queue and way
 abbrev pub wordsOf : List Msg → List ℕ
@@ -63,3 +68,17 @@ held-same s f g H e = record { formed = H .formed; at = λ a b ha hb. H .at a b 
 
 pub length-words : (l : List Msg) → length (wordsOf l) ≡ length l
 length-words l = length-map l wordOf
+
+-- ---- a table changes, and every wire is as it was
+
+held-put : (s : List ℕ) (f : ℕ → ℕ → Wire) (k x : ℕ) → k < 48 → Held s f → Held (withEntry s k x) f
+held-put s f k x l H = record { formed = put-formed s k x l (H .formed); at = λ a b ha hb. put-waits s k x (wireOf a b) l ∙ H .at a b ha hb }
+
+pub held-tables : (o : Departure) (links to : ℕ) (s : List ℕ) (f : ℕ → ℕ → Wire) → Held s f → Held (keptTables o links to s) f
+unfolding keptTables
+held-tables o links to s f H =
+    let b = o .own % 16 in
+    let u = withHeard s b (cond (ends o) 0 (o .heard)) in
+    let v = withBusy u (o .«from» % 16) to in
+    let K : Held v f = held-put u f (32 + o .«from» % 16) to (omega arith) (held-put s f (16 + b) _ (omega arith) H) in
+    pick (λ (z : List ℕ). Held z f) (o .wakes || o .round) (held-put v f (32 + b) _ (omega arith) K) K

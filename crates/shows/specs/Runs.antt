@@ -25,15 +25,16 @@ use Rattle.order.specs.Reached.{sound}
 use Rattle.order.specs.Moves.{deliver-sound, start-sound, full-link}
 use Rattle.wires.specs.Wires.{sixteen, none, queued, underWay, waiting, Waiting}
 use Rattle.wires.specs.Words.{isList}
-use Rattle.wires.proofs.Laws.{none-law, sixteen-proper, way-length}
+use Rattle.wires.proofs.Laws.{way-length}
+use Rattle.tables.specs.Tables.{linksOf, heardOf, busyOf, laid}
+use Rattle.tables.proofs.Laws.{entries-length, laid-waits, laid-formed, laid-links, laid-heard, laid-busy}
 use Rattle.boxes.specs.declared.Arrival.{Arrival}
 use Rattle.boxes.specs.declared.Departure.{Departure}
 use Rattle.boxes.specs.Record.{boxOf, recordOf, blank, box-record}
 use Rattle.boxes.specs.Step.{stepDef}
 use Rattle.mail.specs.Gather.{wireOf}
-use Rattle.turn.specs.declared.Turn.{Turn}
 use Rattle.turn.specs.declared.Pair.{Pair}
-use Rattle.turn.specs.Turn.{Took, searched, nextPair, quiet, oneList, roundOf, tookRound, tookFirst, delivered, begun, tookPair, tookDef, heardAt, nextTurn, putDef}
+use Rattle.turn.specs.Turn.{Turn, turnOf, Took, searched, nextPair, quiet, oneList, roundOf, tookRound, tookFirst, delivered, begun, tookPair, tookDef, heardAt, nextTurn, putDef}
 use Rattle.turns.specs.Turns.{Going, turnDef, turnsDef, firstTurn, asleepRow, ownDef}
 use Rattle.shows.specs.Held.{length-words}
 use Rattle.shows.specs.Shows.{Shows, some}
@@ -303,26 +304,23 @@ module _ (t : List ℕ) (T : Table 16 t) (list : List ℕ) where
 
 -- ---- from a sleeping hub
 
-zeros : (k : ℕ) → k < 16 → word (replicate 16 0) k ≡ 0
-zeros k h = getD-replicate {A = ℕ} 16 k 0 0 h
-
-asleep-shows : (t : List ℕ) (pairs budget : ℕ) → Shows t (record { row = asleepRow; store = none sixteen; turn = firstTurn t pairs budget }) (sleeping 16)
+asleep-shows : (t : List ℕ) → Table 16 t → (pairs budget : ℕ) → Shows t (record { row = asleepRow; store = laid t; turn = turnOf (firstTurn pairs budget) (laid t) }) (sleeping 16)
 unfolding firstTurn
-asleep-shows t pairs budget = record {
+asleep-shows t T pairs budget = record {
   rows = refl;
   boxes = λ i hi. ap boxOf (getD-replicate 16 i (recordOf (asleep 16)) blank hi) ∙ box-record (asleep 16);
-  held = record { formed = none-law sixteen sixteen-proper .formed; at = λ a b ha hb. none-law sixteen sixteen-proper .nothing (wireOf a b) };
-  links = refl;
+  held = record { formed = laid-formed t; at = λ a b ha hb. laid-waits t (wireOf a b) };
+  links = laid-links t (T .size) (λ b hb. T .small b);
   sent = refl;
   moved = refl;
   full = refl;
   awake = λ i hi. mem-empty i;
   stopped = λ i hi. mem-empty i;
-  heard-size = refl;
-  heard-set = λ b hb. rw (zeros b hb) (omega arith);
-  heard = λ a b ha hb. ap (mem a) (zeros b hb) ∙ mem-empty a;
-  busy-size = refl;
-  busy = λ a b ha hb. ap (mem b) (zeros a ha) ∙ mem-empty b;
+  heard-size = entries-length (laid t) 16 16;
+  heard-set = λ b hb. rw (laid-heard t b hb) (omega arith);
+  heard = λ a b ha hb. ap (mem a) (laid-heard t b hb) ∙ mem-empty a;
+  busy-size = entries-length (laid t) 32 16;
+  busy = λ a b ha hb. ap (mem b) (laid-busy t a ha) ∙ mem-empty b;
 }
 
 -- The owner's turns, on a list that names what it should, show the rules' run of the list and then the drain of the budget.
@@ -331,9 +329,9 @@ pub own-shows : (t : List ℕ) (T : Table 16 t) (list : List ℕ) (budget : ℕ)
 unfolding ownDef firstTurn
 own-shows t T list budget M =
     let N : ℕ = length list / 2 in
-    let g : Going = record { row = asleepRow; store = none sixteen; turn = firstTurn t N budget } in
+    let g : Going = record { row = asleepRow; store = laid t; turn = turnOf (firstTurn N budget) (laid t) } in
     let L : Listed t T list N budget g N (run 16 20 t list (sleeping 16)) =
-    listed t T list N budget list g (sleeping 16) (asleep-shows t N budget) (sound 16 20 t T (omega arith) begin) M refl refl (omega arith) refl in
+    listed t T list N budget list g (sleeping 16) (asleep-shows t T N budget) (sound 16 20 t T (omega arith) begin) M refl refl (omega arith) refl in
     let d : ltb (L .going .turn .at) (L .going .turn .pairs) ≡ false = ap₂ ltb (L .at) (L .pairs) ∙ le-ltb N N (omega arith) in (
       subst (λ (x : Going). Shows t x (drain 16 20 t budget (run 16 20 t list (sleeping 16)))) (sym (L .same))
           (drained t T list budget (L .going) (run 16 20 t list (sleeping 16)) (L .shows) (L .sound) d (L .left)),

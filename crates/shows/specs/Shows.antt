@@ -27,10 +27,9 @@ use Rattle.boxes.specs.Record.{boxOf, recordOf, blank, box-record}
 use Rattle.mail.specs.Letter.{postLink}
 use Rattle.mail.specs.Post.{Posted}
 use Rattle.mail.specs.Gather.{wireOf, clearTo}
-use Rattle.turn.specs.declared.Turn.{Turn}
-use Rattle.turn.specs.Turn.{Put, letter, postTo, lessBusy, moreBusy, ends, nextTurn, putDef}
+use Rattle.turn.specs.Turn.{Turn, lessOf, keptTables, Put, letter, postTo, lessBusy, moreBusy, ends, nextTurn, putDef}
 use Rattle.turns.specs.Turns.{Going}
-use Rattle.shows.specs.Held.{heldOf, Held, held-same}
+use Rattle.shows.specs.Held.{heldOf, Held, held-same, held-tables}
 use Rattle.shows.specs.Posts.{Sends, letterList, next-count}
 use Rattle.shows.specs.Settles.{Alike, settled-queue, settled-way, settled-boxes, settled-sent, settled-moved, settled-full, posts-settled}
 
@@ -322,9 +321,12 @@ module _ (t : List ℕ) (T : Table 16 t) (g : Going) (h P : Hub) (D : Desk) (a b
     unfolding putDef nextTurn lessBusy moreBusy
     turn-is = rw (own-mod, from-mod, S .links)
 
-    store-is : (putDef s o c) .store ≡ sentOut .store
+    abbrev toNow : ℕ
+    toNow = lessOf s (o .moved) a b (word (c .busy) a)
+
+    store-is : (putDef s o c) .store ≡ keptTables o (word t b) toNow (sentOut .store)
     unfolding putDef
-    store-is = rw (own-mod, S .links)
+    store-is = rw (own-mod, from-mod, S .links)
 
     moved-is : cond (o .moved) ((c .moved + 1) % 4294967296) (c .moved) ≡ after .moved % 4294967296
     moved-is =
@@ -338,14 +340,14 @@ module _ (t : List ℕ) (T : Table 16 t) (g : Going) (h P : Hub) (D : Desk) (a b
         unless : o .moved ≡ false → cond (o .moved) (suc (h .moved)) (h .moved) ≡ h .moved
         unless e = rw e
 
-    pub turned : (x : Record) → x ≡ recordOf (D .box) → Shows t (record { row = set (g .row) b x; store = sentOut .store; turn = turnNow }) after
+    pub turned : (x : Record) → x ≡ recordOf (D .box) → Shows t (record { row = set (g .row) b x; store = keptTables o (word t b) toNow (sentOut .store); turn = turnNow }) after
     turned x e = record {
       rows = length-set (g .row) b x ∙ S .rows;
       boxes = λ i hi. elim (ℕ-discrete i b) [
         | yes z ↦ rw (z, getD-set-same (g .row) b x blank (omega (arith, S .rows))) (ap boxOf e ∙ box-record (D .box) ∙ sym box-here)
         | no z ↦ ap boxOf (getD-set-other (g .row) b i x blank z) ∙ S .boxes i hi ∙ sym (box-other i z)
       ];
-      held = posted .held;
+      held = held-tables o (word t b) toNow (sentOut .store) _ (posted .held);
       links = S .links;
       sent = posted .sent;
       moved = moved-is;

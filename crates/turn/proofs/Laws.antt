@@ -19,10 +19,9 @@ use Rattle.boxes.specs.declared.Arrival.{Arrival}
 use Rattle.mail.specs.declared.Gathered.{Gathered}
 use Rattle.mail.specs.Gather.{Got, gotNothing, wireOf, gatherTo}
 use Rattle.mail.specs.Gathered.{got}
-use Rattle.turn.specs.declared.Turn.{Turn}
 use Rattle.turn.specs.declared.Pair.{Pair}
 use Rattle.turn.specs.declared.Receiver.{Receiver}
-use Rattle.turn.specs.Turn.{searched, pairOf, nextPair, sleeps, quiet, heardAt, oneList, roundOf, tookRound, tookFirst, delivered, begun, tookPair, tookDef, Took}
+use Rattle.turn.specs.Turn.{Turn, searched, pairOf, nextPair, sleeps, quiet, heardAt, oneList, roundOf, tookRound, tookFirst, delivered, begun, tookPair, tookDef, Took}
 use Rattle.turn.specs.Parts.{took, receiverFrom, receiverOf, quietTo, oneListTo, gathered, roundTo, firstTo, deliveredTo}
 
 -- ---- choices
@@ -156,9 +155,10 @@ pub receiver-is : (b links heard awake stopped : ℕ) (t u w : Bool) → t ≡ m
 receiver-is b links heard awake stopped t u w et eu ew = rw (ew, et, eu)
 
 -- and read out of the state
-pub receiver-at : (c : Turn) (b : ℕ) (r : Receiver) → r ≡ receiverFrom b (word (c .links) b) (word (c .heard) b) (c .awake) (c .stopped) → r ≡ receiverOf c b
+pub receiver-read : (c : Turn) (b links heard : ℕ) (r : Receiver) → links ≡ word (c .links) b → heard ≡ word (c .heard) b → r ≡ receiverFrom b links heard (c .awake) (c .stopped)
+    → r ≡ receiverOf c b
 unfolding receiverOf
-receiver-at c b r e = e
+receiver-read c b links heard r el eh e = rw (← el, ← eh) e
 
 -- the same definitions twice: by the receiver's words, and by the state
 pub delivered-is : (c : Turn) (a b : ℕ) (s : List ℕ) → deliveredTo (receiverOf c b) a s ≡ delivered c a b s

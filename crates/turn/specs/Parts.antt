@@ -1,19 +1,21 @@
 -- Parts of a turn under names of their own, for the contracts of the functions that do them. What a pair brings is said of the receiver's own words alone,
 -- so that no function there is handed the whole state; that this comes to the turn's definitions is in the crate's proofs. Definitions alone.
 use Prim.Native.Nat.{ℕ, _+_, _-_, _%_, _^_}
+use mathlib.Core.Path.{_≡_}
 use mathlib.Core.Bool.{Bool, true, false, not, _&&_, _||_, cond}
 use mathlib.Core.List.{List}
 use lib.Bits.{bitOr}
 use lib.Dec.{eqb, ltb}
 use lib.ListN.{set, replicate}
-use Rattle.rules.specs.Sets.{mem, without, word}
+use Rattle.rules.specs.Sets.{mem, word}
 use Rattle.wires.specs.Wires.{sixteen, queued, underWay, arrived, oldest, skipped, taken}
 use Rattle.wires.specs.Words.{isList, originOf, setOf}
+use Rattle.tables.specs.Tables.{linksOf, heardOf, busyOf}
 use Rattle.boxes.specs.declared.Arrival.{Arrival}
+use Rattle.boxes.specs.declared.Departure.{Departure}
 use Rattle.mail.specs.Gather.{Got, gotNothing, wireOf, gatherTo}
-use Rattle.turn.specs.declared.Turn.{Turn}
 use Rattle.turn.specs.declared.Receiver.{Receiver}
-use Rattle.turn.specs.Turn.{Took}
+use Rattle.turn.specs.Turn.{Turn, Took, moreBusy, ends, keptTables}
 
 -- the store, and what code has taken from it
 abbrev pub took : List ℕ → Arrival → Took
@@ -92,9 +94,12 @@ deliveredTo r a s =
 
 -- ---- what is carried on, as `nextTurn` has it: crate sends
 
--- of one sender, the receivers that it has messages under way to
-abbrev pub lessOf : List ℕ → Bool → ℕ → ℕ → ℕ → ℕ
-lessOf s moved a b to = cond (moved && eqb (underWay sixteen s (wireOf a b)) 0) (without to (2 ^ b)) to
+-- the tables of the store s′, which were those of s
+pub record Kept (o : Departure) (links to : ℕ) (s s′ : List ℕ) : Type 0 where
+  pub words : s′ ≡ keptTables o links to s
+  pub same : linksOf s′ ≡ linksOf s
+  pub heard : heardOf s′ ≡ set (heardOf s) (o .own % 16) (cond (ends o) 0 (o .heard))
+  pub busy : busyOf s′ ≡ moreBusy o links (set (busyOf s) (o .«from» % 16) to)
 
 -- how many turns may still come: one less, and none once the list is over and nothing was moved
 abbrev pub leftAfter : ℕ → ℕ → ℕ → Bool → ℕ

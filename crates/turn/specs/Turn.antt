@@ -15,8 +15,40 @@ use Rattle.mail.specs.declared.Letter.{Letter}
 use Rattle.mail.specs.Post.{Posted}
 use Rattle.mail.specs.Letter.{postLink}
 use Rattle.mail.specs.Gather.{Got, gotNothing, wireOf, gatherTo, clearTo}
-use Rattle.turn.specs.declared.Turn.{Turn}
+use Rattle.tables.specs.Tables.{entryOf, withEntry, linksOf, heardOf, busyOf, withHeard, withBusy}
+use Rattle.turn.specs.declared.Carried.{Carried}
 use Rattle.turn.specs.declared.Pair.{Pair}
+
+-- ---- what a run carries from turn to turn: numbers, and by box its link set, the links whose queue holds a message, and to which boxes it has messages under way
+
+pub record Turn : Type 0 where
+  pub left : ℕ
+  pub at : ℕ
+  pub pairs : ℕ
+  pub sent : ℕ
+  pub moved : ℕ
+  pub full : Bool
+  pub awake : ℕ
+  pub stopped : ℕ
+  pub links : List ℕ
+  pub heard : List ℕ
+  pub busy : List ℕ
+
+-- the tables stand in the store
+abbrev pub turnOf : Carried → List ℕ → Turn
+turnOf c s = record {
+  left = c .left;
+  at = c .at;
+  pairs = c .pairs;
+  sent = c .sent;
+  moved = c .moved;
+  full = c .full;
+  awake = c .awake;
+  stopped = c .stopped;
+  links = linksOf s;
+  heard = heardOf s;
+  busy = busyOf s;
+}
 
 -- ---- the next pair: of the list, while it lasts; then the first wire that holds a message
 
@@ -139,7 +171,10 @@ letter o j = record { wakes = o .wakes; own = 2 ^ (o .own % 16); round = o .roun
 unfoldable pub postTo : Departure → ℕ → ℕ → Posted → Posted
 postTo o links n p = forEach links (λ j. postLink (wireOf (o .own % 16) j) (letter o j) (o .neighbors)) n p
 
--- the receivers that a sender has messages under way to
+-- of one sender, the receivers that it has messages under way to
+abbrev pub lessOf : List ℕ → Bool → ℕ → ℕ → ℕ → ℕ
+lessOf s moved a b to = cond (moved && eqb (underWay sixteen s (wireOf a b)) 0) (without to (2 ^ b)) to
+
 unfoldable pub lessBusy : List ℕ → Departure → List ℕ → List ℕ
 lessBusy s o busy =
     let a = o .«from» % 16 in
@@ -175,6 +210,13 @@ nextTurn c o s p =
       busy = moreBusy o (word (c .links) b) (lessBusy s o (c .busy));
     }
 
+-- the tables in the store s, once the receiver has heard what it has: the sender has messages under way to those in `to`, and a box that sends has to its links
+unfoldable pub keptTables : Departure → ℕ → ℕ → List ℕ → List ℕ
+keptTables o links to s =
+    let b = o .own % 16 in
+    let u = withBusy (withHeard s b (cond (ends o) 0 (o .heard))) (o .«from» % 16) to in
+    cond (o .wakes || o .round) (withBusy u b (bitOr (word (busyOf u) b) links)) u
+
 -- s is the store as the step found it
 unfoldable pub putDef : List ℕ → Departure → Turn → Put
 putDef s o c =
@@ -182,4 +224,5 @@ putDef s o c =
     let links = word (c .links) b in
     let cleared = cond (ends o) (clearTo b links 16 s) s in
     let p = postTo o links 16 (record { store = cleared; sent = c .sent; full = c .full }) in
-    record { store = p .store; turn = nextTurn c o s p }
+    let a = o .«from» % 16 in
+    record { store = keptTables o links (lessOf s (o .moved) a b (word (c .busy) a)) (p .store); turn = nextTurn c o s p }

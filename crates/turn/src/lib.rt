@@ -3,7 +3,8 @@ ghost use mathlib.Core.Path.{_≡_};
 ghost use Prim.Native.Nat.{_*_, _<_, _≤_};
 ghost use mathlib.Core.Bool.{not, _&&_};
 ghost use lib.ListN.{length};
-ghost use Rattle.turn.specs.Turn.{searched, pairOf, tookPair, tookDef};
+ghost use Rattle.tables.specs.Tables.{busyOf};
+ghost use Rattle.turn.specs.Turn.{turnOf, searched, pairOf, tookPair, tookDef};
 ghost use Rattle.turn.specs.Parts.{took, receiverFrom, quietTo, oneListTo, roundTo, firstTo, deliveredTo};
 use boxes::Arrival;
 
@@ -14,8 +15,8 @@ pub struct Pair {
     pub to: usize,
 }
 
-// What a run carries from turn to turn, by value.
-pub struct Turn {
+// What a run carries from turn to turn by value; what it has by box stands in the store (crate tables).
+pub struct Carried {
     // how many turns may still come; the next pair of the list, and how many pairs it has
     pub left: usize,
     pub at: usize,
@@ -26,10 +27,6 @@ pub struct Turn {
     // the boxes that are awake, and those that have stopped
     pub awake: u16,
     pub stopped: u16,
-    // by box: its link set; the links whose queue holds a message; the boxes to which it has messages under way
-    pub links: [u16; 16],
-    pub heard: [u16; 16],
-    pub busy: [u16; 16],
     // a message found no room
     pub full: bool,
 }
@@ -37,8 +34,9 @@ pub struct Turn {
 // ---- the next pair
 
 // "It searches senders ascending, then receivers, and leaves the search at the first wire that holds a message."
-fn search(busy: &[u16; 16]) -> Pair
-    ensures { λ r. ⌜ (r ≡ searched (now (busy .entry))) × ((r .«from» < 16) × (r .to < 16)) ⌝ }
+fn search(store: &[u32]) -> Pair
+    requires { ⌜ length (now store) ≡ 9264 ⌝ }
+    ensures { λ r. ⌜ (r ≡ searched (busyOf (now (store .entry)))) × ((r .«from» < 16) × (r .to < 16)) ⌝ }
 {
     let mut p = Pair {
         some: false,
@@ -46,7 +44,7 @@ fn search(busy: &[u16; 16]) -> Pair
         to: 0,
     };
     'search: for a in 0..16 {
-        let to = busy[a];
+        let to = tables::busy_of(store, a);
         if to != 0 {
             for b in 0..16 {
                 if sets::is_in(to, b) {
@@ -64,9 +62,9 @@ fn search(busy: &[u16; 16]) -> Pair
 }
 
 // The pairs of the list, while it lasts; then the search.
-pub fn next_pair(list: &[u8], at: usize, pairs: usize, busy: &[u16; 16]) -> Pair
-    requires { ⌜ pairs * 2 ≤ length (now list) ⌝ }
-    ensures { λ r. ⌜ (r ≡ pairOf (now (list .entry)) at pairs (now (busy .entry))) × ((r .«from» < 16) × (r .to < 16)) ⌝ }
+pub fn next_pair(list: &[u8], at: usize, pairs: usize, store: &[u32]) -> Pair
+    requires { ⌜ (pairs * 2 ≤ length (now list)) × (length (now store) ≡ 9264) ⌝ }
+    ensures { λ r. ⌜ (r ≡ pairOf (now (list .entry)) at pairs (busyOf (now (store .entry)))) × ((r .«from» < 16) × (r .to < 16)) ⌝ }
 {
     if at < pairs {
         let k = at * 2;
@@ -76,7 +74,7 @@ pub fn next_pair(list: &[u8], at: usize, pairs: usize, busy: &[u16; 16]) -> Pair
             to: (list[k + 1] % 16) as usize,
         };
     }
-    search(busy)
+    search(store)
 }
 
 // ---- what it brings
@@ -156,7 +154,7 @@ fn one_list(r: Receiver, a: usize, x: u32) -> Arrival
 
 // "All queues have a NOTSPT message at their heads: do a round."
 fn take_round(store: &mut [u32], r: Receiver, a: usize) -> Arrival
-    requires { ⌜ (length (now store) ≡ 9216) × (r .own < 16) ⌝ }
+    requires { ⌜ (length (now store) ≡ 9264) × (r .own < 16) ⌝ }
     ensures { λ h. ⌜ took (now (store .exit)) h ≡ roundTo r a (now (store .entry)) ⌝ }
 {
     let g = mail::gather(store, r.own, r.links);
@@ -178,7 +176,7 @@ fn take_round(store: &mut [u32], r: Receiver, a: usize) -> Arrival
 
 // The word x has joined the queue of the wire from a, which was empty.
 fn take_first(store: &mut [u32], r: Receiver, a: usize, x: u32) -> Arrival
-    requires { ⌜ (length (now store) ≡ 9216) × ((a < 16) × (r .own < 16)) ⌝ }
+    requires { ⌜ (length (now store) ≡ 9264) × ((a < 16) × (r .own < 16)) ⌝ }
     ensures { λ h. ⌜ took (now (store .exit)) h ≡ firstTo r a x (now (store .entry)) ⌝ }
 {
     if wires::is_list(x) {
@@ -194,7 +192,7 @@ fn take_first(store: &mut [u32], r: Receiver, a: usize, x: u32) -> Arrival
 
 // "A delivery takes the oldest message off a wire."
 fn take_oldest(store: &mut [u32], r: Receiver, a: usize) -> Arrival
-    requires { ⌜ (length (now store) ≡ 9216) × ((a < 16) × (r .own < 16)) ⌝ }
+    requires { ⌜ (length (now store) ≡ 9264) × ((a < 16) × (r .own < 16)) ⌝ }
     ensures { λ h. ⌜ took (now (store .exit)) h ≡ deliveredTo r a (now (store .entry)) ⌝ }
 {
     let i = a * 16 + r.own;
@@ -214,26 +212,38 @@ fn take_oldest(store: &mut [u32], r: Receiver, a: usize) -> Arrival
 }
 
 // "a = b starts box a. Otherwise the oldest message on the wire from a to b is delivered."
-fn take_pair(store: &mut [u32], p: Pair, c: Turn) -> Arrival
-    requires { ⌜ (length (now store) ≡ 9216) × ((p .«from» < 16) × (p .to < 16)) ⌝ }
-    ensures { λ h. ⌜ took (now (store .exit)) h ≡ tookPair c p (now (store .entry)) ⌝ }
+fn take_pair(store: &mut [u32], p: Pair, c: Carried) -> Arrival
+    requires { ⌜ (length (now store) ≡ 9264) × ((p .«from» < 16) × (p .to < 16)) ⌝ }
+    ensures { λ h. ⌜ took (now (store .exit)) h ≡ tookPair (turnOf c (now (store .entry))) p (now (store .entry)) ⌝ }
 {
     if p.some {
         let b = p.to;
-        let r = receiver_of(b, c.links[b], c.heard[b], c.awake, c.stopped);
+        let r = receiver_of(
+            b,
+            tables::links_of(store, b),
+            tables::heard_of(store, b),
+            c.awake,
+            c.stopped,
+        );
         if p.from == p.to {
             return quiet(r, p.to, false, r.sleeps, r.heard);
         }
         return take_oldest(store, r, p.from);
     }
-    let r = receiver_of(0, c.links[0], c.heard[0], c.awake, c.stopped);
+    let r = receiver_of(
+        0,
+        tables::links_of(store, 0),
+        tables::heard_of(store, 0),
+        c.awake,
+        c.stopped,
+    );
     quiet(r, 0, false, false, r.heard)
 }
 
-pub fn take(store: &mut [u32], list: &[u8], c: Turn) -> Arrival
-    requires { ⌜ (length (now store) ≡ 9216) × (c .pairs * 2 ≤ length (now list)) ⌝ }
-    ensures { λ h. ⌜ (h ≡ tookDef (now (list .entry)) (now (store .entry)) c .arrival) × ((now (store .exit) ≡ tookDef (now (list .entry)) (now (store .entry)) c .store) × (h .own < 16)) ⌝ }
+pub fn take(store: &mut [u32], list: &[u8], c: Carried) -> Arrival
+    requires { ⌜ (length (now store) ≡ 9264) × (c .pairs * 2 ≤ length (now list)) ⌝ }
+    ensures { λ h. ⌜ (h ≡ tookDef (now (list .entry)) (now (store .entry)) (turnOf c (now (store .entry))) .arrival) × ((now (store .exit) ≡ tookDef (now (list .entry)) (now (store .entry)) (turnOf c (now (store .entry))) .store) × (h .own < 16)) ⌝ }
 {
-    let p = next_pair(list, c.at, c.pairs, &c.busy);
+    let p = next_pair(list, c.at, c.pairs, store);
     take_pair(store, p, c)
 }

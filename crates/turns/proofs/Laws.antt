@@ -7,15 +7,15 @@ use mathlib.Core.List.{List}
 use lib.Dec.{eqb, ltb}
 use lib.ListN.{length}
 use borrow.Author.Tests.{ne-eqb}
-use Rattle.wires.specs.Wires.{sixteen, none}
+use Rattle.tables.specs.Tables.{laid}
 use Rattle.boxes.specs.declared.Record.{Record}
 use Rattle.boxes.specs.declared.Departure.{Departure}
-use Rattle.turn.specs.declared.Turn.{Turn}
-use Rattle.turn.specs.Turn.{nextTurn, putDef}
+use Rattle.turn.specs.declared.Carried.{Carried}
+use Rattle.turn.specs.Turn.{Turn, nextTurn, putDef}
 use Rattle.turn.proofs.Laws.{pick}
 use Rattle.turns.specs.declared.Ran.{Ran}
 use Rattle.turns.specs.Turns.{Going, turnDef, turnsDef, firstTurn, asleepRow, ownDef}
-use Rattle.turns.specs.Parts.{going, ran, ranOf}
+use Rattle.turns.specs.Parts.{goingWith, ran, ranOf}
 
 -- ---- a turn, and turns
 
@@ -41,18 +41,18 @@ pub turn-pairs : (ls : List ℕ) (g h : Going) → h ≡ turnDef ls g → h .tur
 unfolding turnDef putDef nextTurn
 turn-pairs ls g h e = rw e
 
--- from the sleeping row and the empty store
-pub ran-is : (n : ℕ) (ls : List ℕ) (rs rs′ : List Record) (ss ss′ : List ℕ) (first c : Turn) (r : Ran) → rs ≡ asleepRow → ss ≡ none sixteen
-    → going rs′ ss′ c ≡ turnsDef n ls (going rs ss first) → r ≡ ran rs′ c → r ≡ ranOf (turnsDef n ls (going asleepRow (none sixteen) first))
-ran-is n ls rs rs′ ss ss′ first c r er es g e =
-    e ∙ ap ranOf (g ∙ ap (λ (z : List Record). turnsDef n ls (going z ss first)) er ∙ ap (λ (z : List ℕ). turnsDef n ls (going asleepRow z first)) es)
+-- from the sleeping row and the store that has the links
+pub ran-is : (n : ℕ) (ls links : List ℕ) (rs rs′ : List Record) (ss ss′ : List ℕ) (first c : Carried) (r : Ran) → rs ≡ asleepRow → ss ≡ laid links
+    → goingWith rs′ ss′ c ≡ turnsDef n ls (goingWith rs ss first) → r ≡ ran rs′ c → r ≡ ranOf (turnsDef n ls (goingWith asleepRow (laid links) first))
+ran-is n ls links rs rs′ ss ss′ first c r er es g e =
+    e ∙ ap ranOf (g ∙ ap (λ (z : List Record). turnsDef n ls (goingWith z ss first)) er ∙ ap (λ (z : List ℕ). turnsDef n ls (goingWith asleepRow z first)) es)
 
 -- the pairs of the first turn are those of the list
-pub first-within : (list links : List ℕ) (budget : ℕ) (first : Turn) → first ≡ firstTurn links (length list / 2) budget → first .pairs * 2 ≤ length list
+pub first-within : (list : List ℕ) (budget : ℕ) (first : Carried) → first ≡ firstTurn (length list / 2) budget → first .pairs * 2 ≤ length list
 unfolding firstTurn
-first-within list links budget first e = omega (arith, ap (λ (c : Turn). c .pairs) e)
+first-within list budget first e = omega (arith, ap (λ (c : Carried). c .pairs) e)
 
-pub own-is : (list links : List ℕ) (budget : ℕ) (first : Turn) (r : Ran) → first ≡ firstTurn links (length list / 2) budget
-    → r ≡ ranOf (turnsDef (first .left) list (going asleepRow (none sixteen) first)) → r ≡ ranOf (ownDef list links budget)
+pub own-is : (list links : List ℕ) (budget : ℕ) (first : Carried) (r : Ran) → first ≡ firstTurn (length list / 2) budget
+    → r ≡ ranOf (turnsDef (first .left) list (goingWith asleepRow (laid links) first)) → r ≡ ranOf (ownDef list links budget)
 unfolding ownDef firstTurn
-own-is list links budget first r e g = g ∙ ap (λ (c : Turn). ranOf (turnsDef (c .left) list (going asleepRow (none sixteen) c))) e
+own-is list links budget first r e g = g ∙ ap (λ (c : Carried). ranOf (turnsDef (c .left) list (goingWith asleepRow (laid links) c))) e

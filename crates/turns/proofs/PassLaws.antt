@@ -3,7 +3,7 @@
 use Prim.Native.Nat.{ℕ, zero, suc, _-_, _%_, _^_, _<_, _≤_}
 use native.Mathlib.Omega.{arith}
 use native.Mathlib.Nat.{mod-eq-of-lt}
-use mathlib.Core.Path.{_≡_, refl, sym, ap, _∙_}
+use mathlib.Core.Path.{_≡_, refl, sym, ap, _∙_, subst}
 use mathlib.Core.Bool.{Bool, true, false, _&&_, _||_, and-false}
 use mathlib.Core.List.{List}
 use lib.Dec.{eqb, ltb}
@@ -20,17 +20,19 @@ use Rattle.boxes.specs.Step.{stepDef, settled, noSets}
 use Rattle.boxes.specs.Laws.{step-still, woken-no, saved-none}
 use Rattle.mail.specs.Post.{Posted}
 use Rattle.mail.specs.Gather.{wireOf}
-use Rattle.turn.specs.declared.Turn.{Turn}
+use Rattle.turn.specs.declared.Carried.{Carried}
 use Rattle.turn.specs.declared.Pair.{Pair}
 use Rattle.pass.specs.declared.Glance.{Glance}
-use Rattle.turn.specs.Turn.{searched, nextPair, quiet, tookPair, tookDef, Took, lessBusy, moreBusy, ends, Put, nextTurn, putDef}
+use Rattle.turn.specs.Turn.{Turn, turnOf, lessOf, keptTables, searched, nextPair, quiet, tookPair, tookDef, Took, lessBusy, moreBusy, ends, Put, nextTurn, putDef}
 use Rattle.turn.specs.Parts.{took, receiverOf, quietTo}
-use Rattle.pass.specs.Pass.{Glanced, glancePair, kept, glanceAt, quietTurn, passOne, passTo, passAll}
+use Rattle.pass.specs.Pass.{Glanced, glancePair, kept, carriedOn, glanceAt, toAfter, quietTurn, quietStore, passOne, passTo, passAll}
+use Rattle.tables.proofs.Laws.{Same}
 use Rattle.turn.proofs.Laws.{pick}
+use Rattle.turn.proofs.Tables.{turn-same, took-same}
 use Rattle.sends.proofs.Laws.{nothing-goes, set-same, set-if}
 use Rattle.pass.proofs.Laws.{pair-took, pass-less, left-some}
 use Rattle.turns.specs.Turns.{Going, turnDef, turnsDef}
-use Rattle.turns.specs.Parts.{going, onDef}
+use Rattle.turns.specs.Parts.{going, goingWith, onDef}
 use Rattle.turns.proofs.Laws.{turns-over, turns-on, turn-less, turn-pairs}
 
 -- ---- the step, and what goes out
@@ -62,9 +64,17 @@ module _ (s : List ℕ) (o : Departure) (c : Turn) (p : Pair) (k : Glance) (w : 
       let b : ℕ = o .own % 16 in
       rw (ends-not, says-nothing, w, set-if (o .moved && eqb (underWay sixteen s (wireOf a b)) 0) (c .busy) a (without (word (c .busy) a) (2 ^ b)), eb, ea, em, eh)
 
-  quiet-put : putDef s o c ≡ kept s (quietTurn c p k s)
+  quiet-tables : keptTables o (word (c .links) (o .own % 16)) (lessOf s (o .moved) (o .«from» % 16) (o .own % 16) (word (c .busy) (o .«from» % 16))) s ≡ quietStore c p k s
+  unfolding keptTables quietStore
+  quiet-tables = rw (says-nothing, ends-not, eb, ea, em, eh)
+
+  quiet-put : putDef s o c ≡ kept (quietStore c p k s) (quietTurn c p k s)
   unfolding putDef
-  quiet-put = rw ends-not (ap (λ (z : Posted). kept (z .store) (nextTurn c o s z)) (sym (nothing-goes o (word (c .links) (o .own % 16)) unsent says-nothing)) ∙ ap (kept s) quiet-next)
+  quiet-put =
+      let links : ℕ = word (c .links) (o .own % 16) in
+      let to : ℕ = lessOf s (o .moved) (o .«from» % 16) (o .own % 16) (word (c .busy) (o .«from» % 16)) in
+      rw ends-not (ap (λ (z : Posted). kept (keptTables o links to (z .store)) (nextTurn c o s z)) (sym (nothing-goes o links unsent says-nothing))
+      ∙ ap (kept (keptTables o links to s)) quiet-next ∙ ap (λ (z : List ℕ). kept z (quietTurn c p k s)) quiet-tables)
 
 -- ---- a turn
 
@@ -111,11 +121,11 @@ module _ (row : List Record) (c : Turn) (p : Pair) (s : List ℕ) (k : Glance) (
   unfolding quietTo
   out r = ap (λ q. q .out) (quiet-settled r come refl refl refl)
 
-  goes : (r : Record) → putDef s (stepDef r come .out) c ≡ kept s (quietTurn c p k s)
+  goes : (r : Record) → putDef s (stepDef r come .out) c ≡ kept (quietStore c p k s) (quietTurn c p k s)
   unfolding settled quietTo receiverOf
   goes r = ap (λ (o : Departure). putDef s o c) (out r) ∙ quiet-put s (settled come noSets noSets (boxOf r) .out) c p k refl refl (mod-eq-of-lt lb) (mod-eq-of-lt la) refl refl
 
-  from-quiet : turnFrom row c (took s come) ≡ going row s (quietTurn c p k s)
+  from-quiet : turnFrom row c (took s come) ≡ going row (quietStore c p k s) (quietTurn c p k s)
   unfolding turnFrom
   from-quiet = rw (stays, goes, set-same)
 
@@ -192,13 +202,15 @@ pass-pairs (suc n) list q =
 
 -- ---- a turn and those that pass after it
 
-pub on-is : (ls : List ℕ) (rs rs′ : List Record) (ss ss′ ss″ : List ℕ) (c r : Turn) (h : Arrival) (o : Departure)
-    → h ≡ tookDef ls ss c .arrival → ss′ ≡ tookDef ls ss c .store
+pub on-is : (ls : List ℕ) (rs rs′ : List Record) (ss ss′ ss″ : List ℕ) (c r : Carried) (h : Arrival) (o : Departure)
+    → h ≡ tookDef ls ss (turnOf c ss) .arrival → ss′ ≡ tookDef ls ss (turnOf c ss) .store
     → rs′ ≡ set rs (h .own) (stepDef (getD rs (h .own) blank) h .«record») → o ≡ stepDef (getD rs (h .own) blank) h .out
-    → kept ss″ r ≡ passAll ls (putDef ss′ o c)
-    → going rs′ ss″ r ≡ onDef ls (going rs ss c)
+    → carriedOn ss″ r ≡ passAll ls (putDef ss′ o (turnOf c ss′))
+    → goingWith rs′ ss″ r ≡ onDef ls (goingWith rs ss c)
 unfolding turnDef
-on-is ls rs rs′ ss ss′ ss″ c r h o eh e′ er eo et = ap (λ (q : Put). going rs′ (q .store) (q .turn)) et ∙ rw (er, eo, e′, eh)
+on-is ls rs rs′ ss ss′ ss″ c r h o eh e′ er eo et =
+    let same : turnOf c ss′ ≡ turnOf c ss = turn-same c ss ss′ (subst (Same ss) (sym e′) (took-same ls ss (turnOf c ss))) in
+    ap (λ (q : Put). going rs′ (q .store) (q .turn)) (et ∙ ap (λ (z : Turn). passAll ls (putDef ss′ o z)) same) ∙ rw (er, eo, e′, eh)
 
 pub turns-go-on : (t : ℕ) (ls : List ℕ) (g h : Going) → 1 ≤ g .turn .left → g .turn .left ≤ suc t → h ≡ onDef ls g → turnsDef (suc t) ls g ≡ turnsDef t ls h
 turns-go-on t ls g h some l e =

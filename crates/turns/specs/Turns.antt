@@ -6,12 +6,12 @@ use mathlib.Core.List.{List}
 use lib.Dec.{eqb}
 use lib.ListN.{length, getD, set, replicate}
 use Rattle.rules.specs.Box.{asleep}
-use Rattle.wires.specs.Wires.{sixteen, none}
+use Rattle.tables.specs.Tables.{laid}
 use Rattle.boxes.specs.declared.Record.{Record}
 use Rattle.boxes.specs.Record.{recordOf, blank}
 use Rattle.boxes.specs.Step.{stepDef}
-use Rattle.turn.specs.declared.Turn.{Turn}
-use Rattle.turn.specs.Turn.{tookDef, putDef}
+use Rattle.turn.specs.declared.Carried.{Carried}
+use Rattle.turn.specs.Turn.{Turn, turnOf, tookDef, putDef}
 
 -- ---- turns
 
@@ -35,8 +35,8 @@ turnsDef (suc n) list g = cond (eqb (g .turn .left) 0) g (turnsDef n list (turnD
 
 -- ---- the whole: from a sleeping hub, the pairs of the list, then at most budget deliveries
 
-unfoldable pub firstTurn : List ℕ → ℕ → ℕ → Turn
-firstTurn links pairs budget = record {
+unfoldable pub firstTurn : ℕ → ℕ → Carried
+firstTurn pairs budget = record {
   left = pairs + budget;
   at = 0;
   pairs = pairs;
@@ -45,9 +45,6 @@ firstTurn links pairs budget = record {
   full = false;
   awake = 0;
   stopped = 0;
-  links = links;
-  heard = replicate 16 0;
-  busy = replicate 16 0;
 }
 
 abbrev pub asleepRow : List Record
@@ -56,4 +53,4 @@ asleepRow = replicate 16 (recordOf (asleep 16))
 unfoldable pub ownDef : List ℕ → List ℕ → ℕ → Going
 ownDef list links budget =
     let pairs = length list / 2 in
-    turnsDef (pairs + budget) list (record { row = asleepRow; store = none sixteen; turn = firstTurn links pairs budget })
+    turnsDef (pairs + budget) list (record { row = asleepRow; store = laid links; turn = turnOf (firstTurn pairs budget) (laid links) })

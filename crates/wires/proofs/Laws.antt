@@ -12,7 +12,7 @@ use lib.Dec.{eqb, ltb}
 use lib.ListN.{length, set, replicate, length-set, length-append, length-replicate}
 use borrow.Author.Tests.{ltb-true, ltb-false, eqb-true, eqb-false, lt-ltb, le-ltb, eq-eqb, ne-eqb}
 use Rattle.rules.specs.Sets.{word}
-use Rattle.wires.specs.Wires.{Sizes, sixteen, Proper, Waiting, Formed, stride, place, slot, headAt, queuedAt, wayAt, head, queued, underWay, ringAt, waiting, none, hasRoom, pushed, arrived, oldest, skipped, front, taken, takenWord, cleared, Others, joinWay, Pushed, Arrived, Skipped, First, Taken, Cleared, Empty}
+use Rattle.wires.specs.Wires.{Sizes, sixteen, Proper, Waiting, Formed, stride, storeSize, place, slot, headAt, queuedAt, wayAt, head, queued, underWay, ringAt, waiting, none, hasRoom, pushed, arrived, oldest, skipped, front, taken, takenWord, cleared, Others, joinWay, Pushed, Arrived, Skipped, First, Taken, Cleared, Empty}
 use Rattle.wires.proofs.Ring.{turn-apart, read-same, read-beside, read-elsewhere, ring-agree, ring-turn, ring-more, ring-first, ring-some, ring-length, ring-none, none-ring}
 
 -- a wire that holds these two lists
@@ -80,7 +80,7 @@ module _ (z : Sizes) (ok : Proper z) where
   within : (s : List ℕ) (i : ℕ) → Formed z s → queued z s i + underWay z s i ≤ z .room
   within s i f = rw (queue-length, way-length) at (f .room i)
 
-  module _ (s : List ℕ) (i : ℕ) (size : length s ≡ z .wires * stride z) (here : i < z .wires) where
+  module _ (s : List ℕ) (i : ℕ) (size : length s ≡ storeSize z) (here : i < z .wires) where
     -- ---- push
 
     pub push-joins : (x : ℕ) → queued z s i + underWay z s i < z .room
@@ -95,7 +95,7 @@ module _ (z : Sizes) (ok : Proper z) where
         let s₂ : List ℕ = set s₁ (wayAt z i) (w + 1) in
         let low : a % z .ring < z .ring = mod-lt a (ok .some) in
         let less : z .room < z .ring = ok .less in
-        let size₁ : length s₁ ≡ z .wires * stride z = length-set s (slot z i a) x ∙ size in
+        let size₁ : length s₁ ≡ storeSize z = length-set s (slot z i a) x ∙ size in
         let eh : head z s₂ i ≡ h =
         ap (λ (y : ℕ). y % z .ring) (read-beside z s₁ i (z .ring + 2) (z .ring) (w + 1) (omega arith) ∙ read-beside z s i (a % z .ring) (z .ring) x (omega arith)) in
         let eq : queued z s₂ i ≡ q =
@@ -429,7 +429,7 @@ module _ (z : Sizes) (ok : Proper z) where
   pub none-waits : (k : ℕ) → waiting z (none z) k ≡ holds [] []
   unfolding none
   none-waits k =
-      let n : ℕ = z .wires * stride z in
+      let n : ℕ = storeSize z in
       let e : (p : ℕ) → word (replicate n 0) p % z .ring ≡ 0 = λ p. mod-of (zeros n p) (ok .some) in
       waiting-is (replicate n 0) k 0 0 0 (e (headAt z k)) (e (queuedAt z k)) (e (wayAt z k))
       ∙ ap₂ holds (ring-none z (replicate n 0) k 0 0 refl) (ring-none z (replicate n 0) k (0 + 0) 0 refl)

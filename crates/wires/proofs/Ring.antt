@@ -12,7 +12,7 @@ use lib.Arith.{digits-div, digits-lt}
 use lib.ListN.{length, set}
 use lib.Seq.{getD-set-same, getD-set-other}
 use Rattle.rules.specs.Sets.{word}
-use Rattle.wires.specs.Wires.{Sizes, stride, place, slot, ringAt}
+use Rattle.wires.specs.Wires.{Sizes, stride, storeSize, place, slot, ringAt}
 
 -- ---- places
 
@@ -47,15 +47,17 @@ turn-apart ring a b l t e = elim (decLt (x + d) ring) [ yes h ↦ below h | no h
 module _ (z : Sizes) where
   -- places of two wires are two
   pub wires-apart : (i k p q : ℕ) → p < stride z → q < stride z → k ≢ i → place z k q ≢ place z i p
-  wires-apart i k p q hp hq ne e = ne (sym (digits-div k hq) ∙ ap (λ (x : ℕ). x / stride z) e ∙ digits-div i hp)
+  wires-apart i k p q hp hq ne e =
+      let f : k * stride z + q ≡ i * stride z + p = omega arith in
+      ne (sym (digits-div k hq) ∙ ap (λ (x : ℕ). x / stride z) f ∙ digits-div i hp)
 
   -- a place of a wire is in the store
-  pub inside : (s : List ℕ) (i p : ℕ) → length s ≡ z .wires * stride z → i < z .wires → p < stride z → place z i p < length s
-  inside s i p e hi hp = rw e (digits-lt hi hp)
+  pub inside : (s : List ℕ) (i p : ℕ) → length s ≡ storeSize z → i < z .wires → p < stride z → place z i p < length s
+  inside s i p e hi hp = rw e (omega (arith, digits-lt hi hp))
 
   -- ---- a word stored
 
-  pub read-same : (s : List ℕ) (i p v : ℕ) → length s ≡ z .wires * stride z → i < z .wires → p < stride z → word (set s (place z i p) v) (place z i p) ≡ v
+  pub read-same : (s : List ℕ) (i p v : ℕ) → length s ≡ storeSize z → i < z .wires → p < stride z → word (set s (place z i p) v) (place z i p) ≡ v
   read-same s i p v e hi hp = getD-set-same s (place z i p) v 0 (inside s i p e hi hp)
 
   pub read-beside : (s : List ℕ) (i p q v : ℕ) → q ≢ p → word (set s (place z i p) v) (place z i q) ≡ word s (place z i q)

@@ -11,15 +11,17 @@ use lib.ListN.{length, set, replicate}
 use Rattle.rules.specs.Sets.{word}
 use Rattle.rules.specs.Calls.{boxesMost, roomOfWire}
 
--- How many wires there are, how many words a ring has, and how many messages may wait on a wire and its queue together.
+-- How many words stand before the wires', how many wires there are, how many words a ring has, and how many messages may wait on a wire and its queue together.
 pub record Sizes : Type 0 where
+  pub front : ℕ
   pub wires : ℕ
   pub ring : ℕ
   pub room : ℕ
 
 -- The wire from a to b of at most 16 boxes has the number 16 a + b. A ring of 32 words takes 20 messages, and its places are found without a division.
+-- The words before the wires' are for three tables of 16.
 abbrev pub sixteen : Sizes
-sixteen = record { wires = boxesMost * boxesMost; ring = 32; room = roomOfWire }
+sixteen = record { front = 3 * boxesMost; wires = boxesMost * boxesMost; ring = 32; room = roomOfWire }
 
 -- A wire numbers its places in a ring by 0 to ring - 1, and no count comes to a whole turn of the ring.
 pub record Proper (z : Sizes) : Type 0 where
@@ -31,8 +33,11 @@ pub record Proper (z : Sizes) : Type 0 where
 abbrev pub stride : Sizes → ℕ
 stride z = z .ring + 4
 
+abbrev pub storeSize : Sizes → ℕ
+storeSize z = z .front + z .wires * stride z
+
 abbrev pub place : Sizes → ℕ → ℕ → ℕ
-place z i p = i * stride z + p
+place z i p = i * stride z + z .front + p
 
 abbrev pub slot : Sizes → ℕ → ℕ → ℕ
 slot z i p = place z i (p % z .ring)
@@ -76,11 +81,11 @@ waiting z s i = record {
 
 -- The store has its size, and nowhere wait more messages than there is room for.
 pub record Formed (z : Sizes) (s : List ℕ) : Type 0 where
-  pub size : length s ≡ z .wires * stride z
+  pub size : length s ≡ storeSize z
   pub room : (k : ℕ) → length (waiting z s k .queue) + length (waiting z s k .way) ≤ z .room
 
 unfoldable pub none : Sizes → List ℕ
-none z = replicate (z .wires * stride z) 0
+none z = replicate (storeSize z) 0
 
 -- ---- what each call leaves of the words
 

@@ -9,7 +9,7 @@ use Rattle.mail.proofs.clear_all.Statement.{statement}
 use Rattle.mail.proofs.clear_all.Tie as tie
 
 abbrev Inv-loop : tie.InvT-loop
-Inv-loop store₀ b links rest₀ store rest = (rest < 65536) × ((length store ≡ 9216) × (clearTo b rest 16 store ≡ clearTo b links 16 store₀))
+Inv-loop store₀ b links rest₀ store rest = (rest < 65536) × ((length store ≡ 9264) × (clearTo b rest 16 store ≡ clearTo b links 16 store₀))
 
 abbrev μ-loop : tie.MeasureT-loop
 μ-loop store₀ b links rest₀ store rest = rest

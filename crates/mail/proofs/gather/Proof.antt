@@ -10,7 +10,7 @@ use Rattle.mail.proofs.gather.Statement.{statement}
 use Rattle.mail.proofs.gather.Tie as tie
 
 abbrev Inv-loop : tie.InvT-loop
-Inv-loop store₀ b links heads₀ lists₀ f₀ rest₀ store heads lists f rest = (rest < 65536) × ((length store ≡ 9216) × (gatherTo b rest 16 (got store heads (f .listed) lists (f .heard)) ≡ gatherTo b links 16 (got store₀ heads₀ (f₀ .listed) lists₀ (f₀ .heard))))
+Inv-loop store₀ b links heads₀ lists₀ f₀ rest₀ store heads lists f rest = (rest < 65536) × ((length store ≡ 9264) × (gatherTo b rest 16 (got store heads (f .listed) lists (f .heard)) ≡ gatherTo b links 16 (got store₀ heads₀ (f₀ .listed) lists₀ (f₀ .heard))))
 
 abbrev μ-loop : tie.MeasureT-loop
 μ-loop store₀ b links heads₀ lists₀ f₀ rest₀ store heads lists f rest = rest

@@ -11,7 +11,7 @@ use Rattle.mail.proofs.post_lists.Statement.{statement}
 use Rattle.mail.proofs.post_lists.Tie as tie
 
 abbrev Inv-loop : tie.InvT-loop
-Inv-loop store₀ i origins known q₀ rest₀ store q rest = (rest < 65536) × ((length store ≡ 9216) × (postLists i rest known 16 (posted store q) ≡ postLists i origins known 16 (posted store₀ q₀)))
+Inv-loop store₀ i origins known q₀ rest₀ store q rest = (rest < 65536) × ((length store ≡ 9264) × (postLists i rest known 16 (posted store q) ≡ postLists i origins known 16 (posted store₀ q₀)))
 
 abbrev μ-loop : tie.MeasureT-loop
 μ-loop store₀ i origins known q₀ rest₀ store q rest = rest

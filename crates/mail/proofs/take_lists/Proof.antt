@@ -13,7 +13,7 @@ use Rattle.mail.proofs.take_lists.Tie as tie
 
 abbrev Inv-loop : tie.InvT-loop
 Inv-loop store₀ i lists₀ listed q₀ store lists q =
-    (length store ≡ 9216) × ((hs : List ℕ) (h : ℕ) → takeLists (queued sixteen store i) i (got store hs q lists h) ≡ takeLists (queued sixteen store₀ i) i (got store₀ hs q₀ lists₀ h))
+    (length store ≡ 9264) × ((hs : List ℕ) (h : ℕ) → takeLists (queued sixteen store i) i (got store hs q lists h) ≡ takeLists (queued sixteen store₀ i) i (got store₀ hs q₀ lists₀ h))
 
 abbrev μ-loop : tie.MeasureT-loop
 μ-loop store₀ i lists₀ listed q₀ store lists q = queued sixteen store i

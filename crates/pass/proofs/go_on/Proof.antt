@@ -8,13 +8,13 @@ put-requires : tie.Need-put-requires
 put-requires c κs = search needs
 
 pass-requires : tie.Need-pass-requires
-pass-requires c κs = (search needs, put-pairs _ (c .before .before .before .before .before .before .before .args .list .now) _ (c .before .before .before .before .before .before .before .args .c) _ (c .before .before .before .put .ensures .0) (c .before .before .before .before .before .before .before .pre .1 .1))
+pass-requires c κs = (search needs, put-pairs _ _ (c .before .before .before .before .before .before .before .args .list .now) _ (c .before .before .before .before .before .before .before .args .c) _ (c .before .before .before .put .ensures .0) (c .before .before .before .before .before .before .before .pre .1 .1))
 
 same-length : tie.Need-same-length
 same-length c = search needs
 
 returns : tie.Need-returns
-returns c = went-on _ _ _ _ _ (c .before .before .before .before .before .before .before .before .before .before .args .c) _ _ (c .before .before .before .before .before .before .put .ensures .0) (c .before .before .before .before .before .before .put .ensures .1) (c .before .before .pass .ensures)
+returns c = went-on (c .before .before .before .before .before .before .before .before .before .before .args .list .now) _ _ _ _ (c .before .before .before .before .before .before .before .before .before .before .args .c) _ _ (c .before .before .before .before .before .before .put .ensures .0) (c .before .before .before .before .before .before .put .ensures .1) (c .before .before .pass .ensures)
 
 pub go-on-spec : {M : Type 1} → statement M
 go-on-spec = tie.close (tie.spec put-requires pass-requires same-length returns)

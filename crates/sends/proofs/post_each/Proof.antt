@@ -11,7 +11,7 @@ use Rattle.sends.proofs.post_each.Statement.{statement}
 use Rattle.sends.proofs.post_each.Tie as tie
 
 abbrev Inv-loop : tie.InvT-loop
-Inv-loop store₀ links o b own known q₀ rest₀ store q rest = (rest < 65536) × ((length store ≡ 9216) × (postTo o rest 16 (posted store q) ≡ postTo o links 16 (posted store₀ q₀)))
+Inv-loop store₀ links o b own known q₀ rest₀ store q rest = (rest < 65536) × ((length store ≡ 9264) × (postTo o rest 16 (posted store q) ≡ postTo o links 16 (posted store₀ q₀)))
 
 abbrev μ-loop : tie.MeasureT-loop
 μ-loop store₀ links o b own known q₀ rest₀ store q rest = rest

@@ -24,13 +24,13 @@ cast-t15 : tie.Need-cast-t15
 cast-t15 c = search needs
 
 returns : tie.Need-returns
-returns c = (pair-listed (c .before .before .before .before .args .list .now) _ (c .before .before .before .before .args .at) (c .before .before .before .before .args .pairs) (c .before .before .if1 .taken), (omega arith, omega arith))
+returns c = (pair-listed (c .before .before .before .before .before .args .list .now) _ (c .before .before .before .before .before .args .at) (c .before .before .before .before .before .args .pairs) (c .before .before .if1 .taken), (omega arith, omega arith))
 
 search-requires : tie.Need-search-requires
 search-requires c κs = search needs
 
 returns-2 : tie.Need-returns-2
-returns-2 c = (pair-searched (c .before .before .before .args .list .now) _ _ _ _ (c .before .if1 .left) (c .search .ensures .0), c .search .ensures .1)
+returns-2 c = (pair-searched (c .before .before .before .before .args .list .now) _ _ _ _ (c .before .if1 .left) (c .search .ensures .0), c .search .ensures .1)
 
 pub next-pair-spec : {M : Type 1} → statement M
 next-pair-spec =

@@ -5,12 +5,12 @@ use Rattle.turns.specs.Turns.{firstTurn}
 use Rattle.turns.proofs.first_turn.Statement.{statement}
 use Rattle.turns.proofs.first_turn.Tie as tie
 
-add-t5 : tie.Need-add-t5
-add-t5 c = search needs
+add-t3 : tie.Need-add-t3
+add-t3 c = search needs
 
 returns : tie.Need-returns
 unfolding firstTurn
 returns c = refl
 
 pub first-turn-spec : {M : Type 1} → statement M
-first-turn-spec = tie.close (tie.spec add-t5 returns)
+first-turn-spec = tie.close (tie.spec add-t3 returns)

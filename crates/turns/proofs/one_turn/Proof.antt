@@ -52,19 +52,19 @@ use Rattle.boxes.specs.declared.Arrival.{Arrival}
 use Rattle.boxes.specs.declared.Departure.{Departure}
 use Rattle.boxes.specs.Record.{blank}
 use Rattle.boxes.specs.Step.{stepDef}
-use Rattle.turn.specs.declared.Turn.{Turn}
-use Rattle.turn.specs.Turn.{tookDef, putDef}
-use Rattle.pass.specs.Pass.{kept, passAll}
+use Rattle.turn.specs.declared.Carried.{Carried}
+use Rattle.turn.specs.Turn.{turnOf, tookDef, putDef}
+use Rattle.pass.specs.Pass.{carriedOn, passAll}
 use Rattle.turns.specs.Turns.{Going}
-use Rattle.turns.specs.Parts.{going, onDef}
+use Rattle.turns.specs.Parts.{goingWith, onDef}
 use Rattle.turns.proofs.PassLaws.{on-is}
 use Rattle.boxes.proofs.Record as T
 use Rattle.boxes.proofs.Arrival as P
 use Rattle.boxes.proofs.Arrival.Laws as P′
 use Rattle.boxes.proofs.Departure as Q
 use Rattle.boxes.proofs.Departure.Laws as Q′
-use Rattle.turn.proofs.Turn as N
-use Rattle.turn.proofs.Turn.Laws as N′
+use Rattle.turn.proofs.Carried as N
+use Rattle.turn.proofs.Carried.Laws as N′
 use Rattle.turn.proofs.take as take
 use Rattle.turn.proofs.take.Symbol as take-def
 use Rattle.turn.proofs.take.Symbol.{name as #turn·take}
@@ -91,7 +91,7 @@ arrival-val = LL.val P.the-type P′.the-laws
 abbrev departure-val : Departure → Val
 departure-val = LL.val Q.the-type Q′.the-laws
 
-abbrev turn-val : Turn → Val
+abbrev turn-val : Carried → Val
 turn-val = LL.val N.the-type N′.the-laws
 
 abbrev stayed : Stays (one.ended .signature .params) (one.ended .kept)
@@ -112,8 +112,8 @@ module _ {M : Type 1} (𝓤 : URA M) (H : Heap 𝓤) (A : Atoms 𝓤) (at-mem : 
   GoOn = tripleOf 𝓤 H A go-on.signature (go-on.spec 𝓤 H A at-mem run)
 
 module _ {M : Type 1} (𝓤 : URA M) (H : Heap 𝓤) (A : Atoms 𝓤) (W : Given 𝓤 H A) (at-mem : Memory → SProp 𝓤) (run : Routine → Fun 𝓤) (κ₀ κ₁ κ₂ : Lft) (q₀ q₁ q₂ : Share)
-    (x₀ : RefT (List Record)) (x₁ : RefT (List ℕ)) (x₂ : RefT (List ℕ)) (c : Turn) (c-is : Is N.the-row c (turn-val c ∷ []))
-    (sixteen : length (x₀ .now) ≡ 16) (full : length (x₁ .now) ≡ 9216) (some-left : 1 ≤ c .left) (within : c .pairs * 2 ≤ length (x₂ .now)) where
+    (x₀ : RefT (List Record)) (x₁ : RefT (List ℕ)) (x₂ : RefT (List ℕ)) (c : Carried) (c-is : Is N.the-row c (turn-val c ∷ []))
+    (sixteen : length (x₀ .now) ≡ 16) (full : length (x₁ .now) ≡ 9264) (some-left : 1 ≤ c .left) (within : c .pairs * 2 ≤ length (x₂ .now)) where
   abbrev rs : List Record
   rs = x₀ .now
 
@@ -136,7 +136,7 @@ module _ {M : Type 1} (𝓤 : URA M) (H : Heap 𝓤) (A : Atoms 𝓤) (W : Given
   abbrev s₂ : Val
   s₂ = sliceVal (x₂ .ptr) (length ls)
 
-  abbrev a : RefT (List Record) × (RefT (List ℕ) × (RefT (List ℕ) × (Turn × Unit {0})))
+  abbrev a : RefT (List Record) × (RefT (List ℕ) × (RefT (List ℕ) × (Carried × Unit {0})))
   a = (x₀, (x₁, (x₂, (c, tt))))
 
   abbrev vals : List Val × (List Val × (List Val × (List Val × Unit {0})))
@@ -148,16 +148,16 @@ module _ {M : Type 1} (𝓤 : URA M) (H : Heap 𝓤) (A : Atoms 𝓤) (W : Given
   departure-typed : (r : Departure) (v : Val) → Is Q.the-row r (v ∷ []) → Holds (hasTy Q′.mir v) × WT v
   departure-typed r v is = LL.lawful Q.the-type Q′.the-laws 𝓤 H A W .typed r _ is .0
 
-  turn-typed : (r : Turn) (v : Val) → Is N.the-row r (v ∷ []) → Holds (hasTy N′.mir v) × WT v
+  turn-typed : (r : Carried) (v : Val) → Is N.the-row r (v ∷ []) → Holds (hasTy N′.mir v) × WT v
   turn-typed r v is = LL.lawful N.the-type N′.the-laws 𝓤 H A W .typed r _ is .0
 
   abbrev Post : Val → SProp 𝓤
   Post = walkOf 𝓤 H A one.ended stayed (one.clauses 𝓤 H A at-mem run) .post (((κ₀, (κ₁, (κ₂, tt))), (q₀, (q₁, (q₂, tt))), tt, a, vals), tt)
 
   abbrev After : Going
-  After = onDef ls (going rs ss c)
+  After = onDef ls (goingWith rs ss c)
 
-  exits : (v : Val) (r : Turn) (rs′ : List Record) (ss′ : List ℕ) → length rs′ ≡ length rs → length ss′ ≡ length ss → going rs′ ss′ r ≡ After
+  exits : (v : Val) (r : Carried) (rs′ : List Record) (ss′ : List ℕ) → length rs′ ≡ length rs → length ss′ ≡ length ss → goingWith rs′ ss′ r ≡ After
       → ent 𝓤 (⋆ 𝓤 H A (‵ (finally R (x₀ .name) rs′) ∷ ‵ (finally u32 (x₁ .name) ss′) ∷ (‵ (flft κ₀ q₀) ⊛ ‵ ftrue) ∷ (‵ (flft κ₁ q₁) ⊛ ‵ ftrue) ∷ (‵ (flft κ₂ q₂) ⊛ ‵ ftrue) ∷ ‵ (N.the-row .own r (v ∷ [])) ∷ [])) (Post v)
   exits v r rs′ ss′ l₀ l₁ e =
       qed W (‵ (finally R (x₀ .name) rs′) ∷ ‵ (finally u32 (x₁ .name) ss′) ∷ (‵ (flft κ₀ q₀) ⊛ ‵ ftrue) ∷ (‵ (flft κ₁ q₁) ⊛ ‵ ftrue) ∷ (‵ (flft κ₂ q₂) ⊛ ‵ ftrue) ∷ ‵ (N.the-row .own r (v ∷ [])) ∷ []) ∵
@@ -188,7 +188,7 @@ module _ {M : Type 1} (𝓤 : URA M) (H : Heap 𝓤) (A : Atoms 𝓤) (W : Given
   abbrev to-go-on : List ℕ → Departure → GoOn 𝓤 H A at-mem run .Ghost
   to-go-on ss′ o = (((κ₁, (κ₂, tt)), (q₁, (q₂, tt)), tt, (st (x₁ .name) ss′, (x₂, (o, (c, tt)))), (s₁ ∷ [], (s₂ ∷ [], (departure-val o ∷ [], (turn-val c ∷ [], tt))))), tt)
 
-  goes-on : (ss′ : List ℕ) (o : Departure) → Is Q.the-row o (departure-val o ∷ []) → length ss′ ≡ 9216
+  goes-on : (ss′ : List ℕ) (o : Departure) → Is Q.the-row o (departure-val o ∷ []) → length ss′ ≡ 9264
       → ent 𝓤 (sep 𝓤 (sep 𝓤 (A .lft κ₁ q₁) (A .lft κ₂ q₂)) (sep 𝓤 (sem 𝓤 H A (MutSlice (named 0) κ₁ u32 .own (st (x₁ .name) ss′) (s₁ ∷ []))) (sem 𝓤 H A (ShrSlice (named 1) κ₂ u8 .own x₂ (s₂ ∷ []))))) (GoOn 𝓤 H A at-mem run .pre (to-go-on ss′ o))
   goes-on ss′ o is ok =
       qed W ((‵ (flft κ₁ q₁) ⊛ ‵ (flft κ₂ q₂)) ∷ ‵ (MutSlice (named 0) κ₁ u32 .own (st (x₁ .name) ss′) (s₁ ∷ [])) ∷ ‵ (ShrSlice (named 1) κ₂ u8 .own x₂ (s₂ ∷ [])) ∷ []) ∵ says ! (ok, (some-left, within)) $
@@ -197,13 +197,13 @@ module _ {M : Type 1} (𝓤 : URA M) (H : Heap 𝓤) (A : Atoms 𝓤) (W : Given
 
   -- what each callee ensures
   abbrev Took′ : Arrival → List ℕ → Type 0
-  Took′ h ss′ = (h ≡ tookDef ls ss c .arrival) × ((ss′ ≡ tookDef ls ss c .store) × (h .own < 16))
+  Took′ h ss′ = (h ≡ tookDef ls ss (turnOf c ss) .arrival) × ((ss′ ≡ tookDef ls ss (turnOf c ss) .store) × (h .own < 16))
 
   abbrev Delivered : Arrival → Departure → List Record → Type 0
   Delivered h o rs′ = (rs′ ≡ set rs (h .own) (stepDef (getD rs (h .own) blank) h .«record»)) × (o ≡ stepDef (getD rs (h .own) blank) h .out)
 
-  abbrev WentOn : List ℕ → Departure → Turn → List ℕ → Type 0
-  WentOn ss′ o r ss″ = kept ss″ r ≡ passAll ls (putDef ss′ o c)
+  abbrev WentOn : List ℕ → Departure → Carried → List ℕ → Type 0
+  WentOn ss′ o r ss″ = carriedOn ss″ r ≡ passAll ls (putDef ss′ o (turnOf c ss′))
 
   module _ (C : Calls 𝓤 H) (Λ : Loops 𝓤 H) (fm : FmC 𝓤 H (W .laws) C) (known-take : Triple 𝓤 (C #turn·take) (Take 𝓤 H A at-mem run)) (known-deliver : Triple 𝓤 (C #rows·deliver-at) (Deliver 𝓤 H A at-mem run)) (known-go-on : Triple 𝓤 (C #pass·go-on) (GoOn 𝓤 H A at-mem run)) where
     walk : Room R (length rs) → Room u32 (length ss) → Room u8 (length ls) → ent 𝓤 (onEntry 𝓤 H A one.signature (κ₀, (κ₁, (κ₂, tt))) (q₀, (q₁, (q₂, tt))) a vals) (WpFn 𝓤 H C Λ code.function (s₀ ∷ s₁ ∷ s₂ ∷ turn-val c ∷ []) Post)
@@ -254,7 +254,7 @@ module _ {M : Type 1} (𝓤 : URA M) (H : Heap 𝓤) (A : Atoms 𝓤) (W : Given
         move ! (5 ∷ []) $ split ! $ move ! (6 ∷ 0 ∷ 5 ∷ 8 ∷ []) $ join ! $
         use3 W (raw (GoOn 𝓤 H A at-mem run .pre (to-go-on (ws .0) o))) (goes-on (ws .0) o (subst (Is Q.the-row o) (LL.tells Q.the-type Q′.the-laws o _ is₁) is₁) (k ∙ full)) $
         calls-at ! fm (GoOn 𝓤 H A at-mem run) known-go-on (to-go-on (ws .0) o) (and-then ! (load ! (from ! (stop !)) (look ! 6 refl)) (and-then ! (load ! (from ! (stop !)) (look ! 24 refl)) (and-then ! (load ! (from ! (stop !)) (look ! 18 refl)) (and-then ! (load ! (from ! (stop !)) (look ! 22 refl)) (no-more !))))) (λ w₂.
-        use1 W (later (some (λ (r : Turn). ((‵ (flft κ₁ q₁) ⊛ (‵ (flft κ₂ q₂) ⊛ ‵ ftrue)) ⊛ ‵ (N.the-row .own r (w₂ ∷ []))) ⊛ raw (ensured 𝓤 H A go-on.ended (go-on.clauses 𝓤 H A at-mem run) (κ₁, (κ₂, tt)) (st (x₁ .name) (ws .0), (x₂, (o, (c, tt)))) tt r)))) (id⊢ 𝓤 _) $ await ! tt $ pick ! (λ r.
+        use1 W (later (some (λ (r : Carried). ((‵ (flft κ₁ q₁) ⊛ (‵ (flft κ₂ q₂) ⊛ ‵ ftrue)) ⊛ ‵ (N.the-row .own r (w₂ ∷ []))) ⊛ raw (ensured 𝓤 H A go-on.ended (go-on.clauses 𝓤 H A at-mem run) (κ₁, (κ₂, tt)) (st (x₁ .name) (ws .0), (x₂, (o, (c, tt)))) tt r)))) (id⊢ 𝓤 _) $ await ! tt $ pick ! (λ r.
         split ! $ move ! (1 ∷ []) $ use1 W (some (λ (ws₂ : List ℕ × (Unit {0} × (Unit {0} × (Unit {0} × Unit {0})))). ‵ (lasts go-on.ended (κ₁, (κ₂, tt)) (st (x₁ .name) (ws .0), (x₂, (o, (c, tt)))) ws₂) ⊛ raw (fact 𝓤 (WentOn (ws .0) o r (ws₂ .0))))) (id⊢ 𝓤 _) $ pick ! (λ ws₂.
         split ! $ move ! (1 ∷ []) $ heard ! (WentOn (ws .0) o r (ws₂ .0)) (λ g₂. fsplit ! $ fsplit ! $ move ! (1 ∷ []) $ feqL ! (λ k₂.
         move ! (2 ∷ []) $ split ! $ move ! (1 ∷ []) $ peeks ! N.the-row (Is N.the-row) (shows 𝓤 H A N.the-row) r (w₂ ∷ []) (λ is₂. land ! (from ! (stop !)) (init ! 33 refl (turn-typed r w₂ is₂)) $
@@ -270,7 +270,7 @@ module _ {M : Type 1} (𝓤 : URA M) (H : Heap 𝓤) (A : Atoms 𝓤) (W : Given
   one-walks C Λ fm known-take known-deliver known-go-on = walked 𝓤 H A one.ended stayed (one.clauses 𝓤 H A at-mem run) (WpFn 𝓤 H C Λ code.function)
       (λ κs. (slice-vals, (slice-vals, (slice-vals, (LL.vals N.the-type N′.the-laws, tt)))))
       (λ κs. (mut-slice-tells (named 0) (κs .0) R, (mut-slice-tells (named 1) (κs .1 .0) u32, (shr-slice-tells (named 2) (κs .1 .1 .0) u8, (LL.tells N.the-type N′.the-laws, tt)))))
-      (λ κs qs bounds a _ are. needs 𝓤 ((length (a .0 .now) ≡ 16) × ((length (a .1 .0 .now) ≡ 9216) × ((1 ≤ a .1 .1 .1 .0 .left) × (a .1 .1 .1 .0 .pairs * 2 ≤ length (a .1 .1 .0 .now))))) _ (λ ok.
+      (λ κs qs bounds a _ are. needs 𝓤 ((length (a .0 .now) ≡ 16) × ((length (a .1 .0 .now) ≡ 9264) × ((1 ≤ a .1 .1 .1 .0 .left) × (a .1 .1 .1 .0 .pairs * 2 ≤ length (a .1 .1 .0 .now))))) _ (λ ok.
       walk 𝓤 H A W at-mem run (κs .0) (κs .1 .0) (κs .1 .1 .0) (qs .0) (qs .1 .0) (qs .1 .1 .0) (a .0) (a .1 .0) (a .1 .1 .0) (a .1 .1 .1 .0) (are .1 .1 .1 .0) (ok .0) (ok .1 .0) (ok .1 .1 .0) (ok .1 .1 .1)
       C Λ fm known-take known-deliver known-go-on (are .0 .0 .1) (are .1 .0 .0 .1) (are .1 .1 .0 .0 .1)))
 

@@ -8,7 +8,7 @@ first-turn-requires : tie.Need-first-turn-requires
 first-turn-requires c κs = search needs
 
 run-from-requires : tie.Need-run-from-requires
-run-from-requires c κs = first-within (c .before .before .args .list .now) _ _ _ (c .first-turn .ensures)
+run-from-requires c κs = first-within (c .before .before .args .list .now) _ _ (c .first-turn .ensures)
 
 returns : tie.Need-returns
 returns c = own-is (c .before .before .before .args .list .now) _ _ _ _ (c .before .first-turn .ensures) (c .run-from .ensures)

@@ -50,14 +50,14 @@ use denote.Triple.Table.{entered, cited}
 use denote.Triple.Walked.{says, needs, Stays, stay-slice, stay-dropped, walkOf, goes-dropped, goes-slice, Walks, ends-at, walked, walk-meets}
 use denote.Exit.{yes}
 use Rattle.boxes.specs.declared.Record.{Record}
-use Rattle.turn.specs.declared.Turn.{Turn}
+use Rattle.turn.specs.declared.Carried.{Carried}
 use Rattle.turns.specs.Turns.{Going, turnsDef}
-use Rattle.turns.specs.Parts.{going, onDef}
+use Rattle.turns.specs.Parts.{goingWith, onDef}
 use Rattle.turns.proofs.Laws.{turns-over}
 use Rattle.turns.proofs.PassLaws.{turns-go-on, on-less, on-pairs}
 use Rattle.boxes.proofs.Record as T
-use Rattle.turn.proofs.Turn as N
-use Rattle.turn.proofs.Turn.Laws as N′
+use Rattle.turn.proofs.Carried as N
+use Rattle.turn.proofs.Carried.Laws as N′
 use Rattle.turns.proofs.one_turn as one
 use Rattle.turns.proofs.one_turn.Symbol as one-def
 use Rattle.turns.proofs.one_turn.Symbol.{name as #turns·one-turn}
@@ -71,7 +71,7 @@ use Rattle.turns.proofs.run_turns.Code.Mir as mir
 abbrev R : RattleType
 R = T.the-row
 
-abbrev turn-val : Turn → Val
+abbrev turn-val : Carried → Val
 turn-val = LL.val N.the-type N′.the-laws
 
 abbrev refR : Ty
@@ -112,13 +112,25 @@ not-none n k h e = omega arith
 all-there : (n : ℕ) → n ≤ n
 all-there n = omega arith
 
+-- the row, the store and what is carried beside them
+record State : Type 0 where
+  row : List Record
+  store : List ℕ
+  turn : Carried
+
+abbrev state : List Record → List ℕ → Carried → State
+state zs us c = record { row = zs; store = us; turn = c }
+
+abbrev goes : State → Going
+goes z = goingWith (z .row) (z .store) (z .turn)
+
 module _ {M : Type 1} (𝓤 : URA M) (H : Heap 𝓤) (A : Atoms 𝓤) (at-mem : Memory → SProp 𝓤) (run : Routine → Fun 𝓤) where
   -- the contracts that the proof cites
   abbrev One : Contract 𝓤
   One = tripleOf 𝓤 H A one.signature (one.spec 𝓤 H A at-mem run)
 
 module _ {M : Type 1} (𝓤 : URA M) (H : Heap 𝓤) (A : Atoms 𝓤) (W : Given 𝓤 H A) (at-mem : Memory → SProp 𝓤) (run : Routine → Fun 𝓤) (κ₀ κ₁ κ₂ : Lft) (q₀ q₁ q₂ : Share)
-    (x₀ : RefT (List Record)) (x₁ : RefT (List ℕ)) (x₂ : RefT (List ℕ)) (c₀ : Turn) (c₀-is : Is N.the-row c₀ (turn-val c₀ ∷ [])) (sixteen : length (x₀ .now) ≡ 16) (full : length (x₁ .now) ≡ 9216) (within : c₀ .pairs * 2 ≤ length (x₂ .now)) where
+    (x₀ : RefT (List Record)) (x₁ : RefT (List ℕ)) (x₂ : RefT (List ℕ)) (c₀ : Carried) (c₀-is : Is N.the-row c₀ (turn-val c₀ ∷ [])) (sixteen : length (x₀ .now) ≡ 16) (full : length (x₁ .now) ≡ 9264) (within : c₀ .pairs * 2 ≤ length (x₂ .now)) where
   abbrev rs : List Record
   rs = x₀ .now
 
@@ -156,22 +168,22 @@ module _ {M : Type 1} (𝓤 : URA M) (H : Heap 𝓤) (A : Atoms 𝓤) (W : Given
   abbrev s₂ : Val
   s₂ = sliceVal (x₂ .ptr) (length ls)
 
-  abbrev a : RefT (List Record) × (RefT (List ℕ) × (RefT (List ℕ) × (Turn × Unit {0})))
+  abbrev a : RefT (List Record) × (RefT (List ℕ) × (RefT (List ℕ) × (Carried × Unit {0})))
   a = (x₀, (x₁, (x₂, (c₀, tt))))
 
   abbrev vals : List Val × (List Val × (List Val × (List Val × Unit {0})))
   vals = (s₀ ∷ [], (s₁ ∷ [], (s₂ ∷ [], (turn-val c₀ ∷ [], tt))))
 
-  turn-typed : (r : Turn) (v : Val) → Is N.the-row r (v ∷ []) → Holds (hasTy N′.mir v) × WT v
+  turn-typed : (r : Carried) (v : Val) → Is N.the-row r (v ∷ []) → Holds (hasTy N′.mir v) × WT v
   turn-typed r v is = LL.lawful N.the-type N′.the-laws 𝓤 H A W .typed r _ is .0
 
   abbrev Post : Val → SProp 𝓤
   Post = walkOf 𝓤 H A run-turns.ended stayed (run-turns.clauses 𝓤 H A at-mem run) .post (((κ₀, (κ₁, (κ₂, tt))), (q₀, (q₁, (q₂, tt))), tt, a, vals), tt)
 
   abbrev Whole : Going
-  Whole = turnsDef (c₀ .left) ls (going rs ss c₀)
+  Whole = turnsDef (c₀ .left) ls (goingWith rs ss c₀)
 
-  exits : (zs : List Record) (us : List ℕ) (c : Turn) → length zs ≡ length rs → length us ≡ length ss → going zs us c ≡ Whole → Is N.the-row c (turn-val c ∷ []) → Room R (length rs) → Room u32 (length ss)
+  exits : (zs : List Record) (us : List ℕ) (c : Carried) → length zs ≡ length rs → length us ≡ length ss → goingWith zs us c ≡ Whole → Is N.the-row c (turn-val c ∷ []) → Room R (length rs) → Room u32 (length ss)
       → ent 𝓤 (⋆ 𝓤 H A (‵ (fobs (x₁ .name) (codedHoleys u32 .code (heres u32 us))) ∷ ‵ (fbor κ₁ (Held u32 (length us) b₁ o₁ (x₁ .name))) ∷ ‵ (flft κ₁ q₁) ∷ ‵ (fobs (x₀ .name) (codedHoleys R .code (heres R zs))) ∷ ‵ (fbor κ₀ (Held R (length zs) b₀ o₀ (x₀ .name))) ∷ ‵ (flft κ₀ q₀) ∷ ‵ (flft κ₂ q₂) ∷ [])) (Post (turn-val c))
   exits zs us c l₀ l₁ e is room₀ room₁ =
       qed W (‵ (fobs (x₁ .name) (codedHoleys u32 .code (heres u32 us))) ∷ ‵ (fbor κ₁ (Held u32 (length us) b₁ o₁ (x₁ .name))) ∷ ‵ (flft κ₁ q₁) ∷ ‵ (fobs (x₀ .name) (codedHoleys R .code (heres R zs))) ∷ ‵ (fbor κ₀ (Held R (length zs) b₀ o₀ (x₀ .name))) ∷ ‵ (flft κ₀ q₀) ∷ ‵ (flft κ₂ q₂) ∷ []) ∵
@@ -185,15 +197,15 @@ module _ {M : Type 1} (𝓤 : URA M) (H : Heap 𝓤) (A : Atoms 𝓤) (W : Given
 
   -- what each callee's triple binds outside, and that the caller has what it asks
   abbrev Args : Type 0
-  Args = RefT (List Record) × (RefT (List ℕ) × (RefT (List ℕ) × (Turn × Unit {0})))
+  Args = RefT (List Record) × (RefT (List ℕ) × (RefT (List ℕ) × (Carried × Unit {0})))
 
-  abbrev given-to : GName → GName → List Record → List ℕ → Turn → Args
+  abbrev given-to : GName → GName → List Record → List ℕ → Carried → Args
   given-to δ δ′ zs us c = (rw δ zs, (st δ′ us, (x₂, (c, tt))))
 
-  abbrev to-one : ℕ → ℕ → GName → GName → List Record → List ℕ → Turn → One 𝓤 H A at-mem run .Ghost
+  abbrev to-one : ℕ → ℕ → GName → GName → List Record → List ℕ → Carried → One 𝓤 H A at-mem run .Ghost
   to-one ν ν′ δ δ′ zs us c = (((ν ∷ [], (ν′ ∷ [], (κ₂, tt))), (fullShare, (fullShare, (q₂, tt))), tt, given-to δ δ′ zs us c, (s₀ ∷ [], (s₁ ∷ [], (s₂ ∷ [], (turn-val c ∷ [], tt))))), tt)
 
-  goes-one : (ν ν′ : ℕ) (δ δ′ : GName) (zs : List Record) (us : List ℕ) (c : Turn) → Is N.the-row c (turn-val c ∷ []) → length zs ≡ 16 → length us ≡ 9216 → 1 ≤ c .left → c .pairs * 2 ≤ length ls
+  goes-one : (ν ν′ : ℕ) (δ δ′ : GName) (zs : List Record) (us : List ℕ) (c : Carried) → Is N.the-row c (turn-val c ∷ []) → length zs ≡ 16 → length us ≡ 9264 → 1 ≤ c .left → c .pairs * 2 ≤ length ls
       → ent 𝓤 (sep 𝓤 (sep 𝓤 (sem 𝓤 H A (MutSlice (named 0) (ν ∷ []) R .own (rw δ zs) (s₀ ∷ []))) (sem 𝓤 H A (MutSlice (named 1) (ν′ ∷ []) u32 .own (st δ′ us) (s₁ ∷ []))))
       (sep 𝓤 (sep 𝓤 (sep 𝓤 (A .lft (ν ∷ []) fullShare) (A .lft (ν′ ∷ []) fullShare)) (A .lft κ₂ q₂)) (sem 𝓤 H A (ShrSlice (named 2) κ₂ u8 .own x₂ (s₂ ∷ []))))) (One 𝓤 H A at-mem run .pre (to-one ν ν′ δ δ′ zs us c))
   goes-one ν ν′ δ δ′ zs us c is l₀ l₁ enough ok =
@@ -203,16 +215,14 @@ module _ {M : Type 1} (𝓤 : URA M) (H : Heap 𝓤) (A : Atoms 𝓤) (W : Given
       nothing ! $ owned ! N.the-row (Is N.the-row) (LL.makes N.the-type N′.the-plain 𝓤 H A) c _ is $ fjoin ! $
       move ! (3 ∷ 0 ∷ []) $ fjoin ! $ move ! (2 ∷ 0 ∷ []) $ fjoin ! $ move ! (1 ∷ 0 ∷ []) $ fjoin ! $ done !
 
-  -- the invariant, for at most t more turns: the row, the store and the state
-  abbrev State : Type 0
-  State = Going
-
   -- what a turn leaves
-  abbrev Done : State → List Record → List ℕ → Turn → Type 0
-  Done y zs us c = going zs us c ≡ y
+  abbrev Done : Going → List Record → List ℕ → Carried → Type 0
+  Done y zs us c = goingWith zs us c ≡ y
+
+  -- the invariant, for at most t more turns
 
   abbrev Facts : ℕ → State → Type 0
-  Facts t z = (z .turn .left ≤ t) × (Is N.the-row (z .turn) (turn-val (z .turn) ∷ []) × ((length (z .row) ≡ length rs) × ((length (z .store) ≡ length ss) × ((z .turn .pairs * 2 ≤ length ls) × (Whole ≡ turnsDef t ls z)))))
+  Facts t z = (z .turn .left ≤ t) × (Is N.the-row (z .turn) (turn-val (z .turn) ∷ []) × ((length (z .row) ≡ length rs) × ((length (z .store) ≡ length ss) × ((z .turn .pairs * 2 ≤ length ls) × (Whole ≡ turnsDef t ls (goes z))))))
 
   abbrev Holding : ℕ → State → SProp 𝓤
   Holding l z = sep 𝓤 (sep 𝓤 (sem 𝓤 H A (cells (mem R) (z .row) b₀ o₀)) (sem 𝓤 H A (cells (mem u32) (z .store) b₁ o₁))) (H .at fullShare N′.mir l 0 (turn-val (z .turn)))
@@ -227,8 +237,8 @@ module _ {M : Type 1} (𝓤 : URA M) (H : Heap 𝓤) (A : Atoms 𝓤) (W : Given
   inv-in l t z f = via 𝓤 (guard 𝓤 (Facts t z) (Holding l z)) (guardI 𝓤 (Facts t z) (Holding l z) f) (exI 𝓤 (λ (y : State). guard 𝓤 (Facts t y) (Holding l y)) z)
 
   -- a turn stays in the list
-  listed : (z : State) (zs : List Record) (us : List ℕ) (c : Turn) → z .turn .pairs * 2 ≤ length ls → Done (onDef ls z) zs us c → c .pairs * 2 ≤ length ls
-  listed z zs us c h d = subst (λ (j : ℕ). j * 2 ≤ length ls) (sym (on-pairs ls z (going zs us c) d)) h
+  listed : (z : State) (zs : List Record) (us : List ℕ) (c : Carried) → z .turn .pairs * 2 ≤ length ls → Done (onDef ls (goes z)) zs us c → c .pairs * 2 ≤ length ls
+  listed z zs us c h d = subst (λ (j : ℕ). j * 2 ≤ length ls) (sym (on-pairs ls (goes z) (goingWith zs us c) d)) h
 
   module _ (𝓣 : Tables 𝓤 H) (room₀ : Room R (length rs)) (room₁ : Room u32 (length ss)) (room₂ : Room u8 (length ls)) (known : Triple 𝓤 (𝓣 .C #turns·one-turn) (One 𝓤 H A at-mem run)) where
     abbrev C : Calls 𝓤 H
@@ -269,7 +279,7 @@ module _ {M : Type 1} (𝓤 : URA M) (H : Heap 𝓤) (A : Atoms 𝓤) (W : Given
           move ! (3 ∷ []) $ use1 W (‵ (row u32 fullShare (z .store) b₁ o₁)) (whole-out 𝓤 H A W u32 (z .store) b₁ o₁) $ move ! (0 ∷ 15 ∷ 16 ∷ 17 ∷ []) $ closes-slice ! tt u32 ss (z .store) (f .1 .1 .1 .0) b₁ o₁ $
           returns ! (look ! 16 refl) $ forget ! 6 refl $ forget ! 7 refl $ forget ! 12 refl $ forget ! 13 refl $ forget ! 14 refl $ forget ! 15 refl $ forget ! 16 refl $
           move ! (16 ∷ 19 ∷ []) $ free1 ! $ move ! (12 ∷ 18 ∷ []) $ free1 ! $ move ! (12 ∷ 17 ∷ []) $ free1 ! $ move ! (12 ∷ 16 ∷ []) $ free1 ! $ move ! (12 ∷ 15 ∷ []) $ free1 ! $ move ! (6 ∷ 14 ∷ []) $ free1 ! $ move ! (6 ∷ 13 ∷ []) $ free1 ! $ move ! (6 ∷ 12 ∷ []) $ free1 ! $ move ! (6 ∷ 11 ∷ []) $ free1 ! $ move ! (6 ∷ 10 ∷ []) $ free1 ! $ move ! (6 ∷ 9 ∷ []) $ free1 ! $ free0 ! $
-          keep ! (0 ∷ 1 ∷ 2 ∷ 3 ∷ 4 ∷ 5 ∷ 6 ∷ []) $ by ! (exits (z .row) (z .store) (z .turn) (f .1 .1 .0) (f .1 .1 .1 .0) (sym (f .1 .1 .1 .1 .1 ∙ turns-over t ls z e)) (f .1 .0) room₀ room₁)
+          keep ! (0 ∷ 1 ∷ 2 ∷ 3 ∷ 4 ∷ 5 ∷ 6 ∷ []) $ by ! (exits (z .row) (z .store) (z .turn) (f .1 .1 .0) (f .1 .1 .1 .0) (sym (f .1 .1 .1 .1 .1 ∙ turns-over t ls (goes z) e)) (f .1 .0) room₀ room₁)
 
       goes-on : (t k : ℕ) (z : State) → Facts t z → z .turn .left ≡ suc k → Sq W (Hold l₅ z ∷ Rest) (runs C Λ E mir.turn-1 (anyQ (afterTurn 𝓤 H (Below 𝓤 H A _<_ I t) Left)))
       unfolding afterTurn
@@ -295,11 +305,11 @@ module _ {M : Type 1} (𝓤 : URA M) (H : Heap 𝓤) (A : Atoms 𝓤) (W : Given
           (goes-one ν ν′ δ δ′ (z .row) (z .store) (z .turn) (f .1 .0) (f .1 .1 .0 ∙ sixteen) (f .1 .1 .1 .0 ∙ full) (some-left (z .turn .left) k e) (f .1 .1 .1 .1 .0)) $
           calls-at-last ! (fmOf 𝓤 H (W .laws) 𝓣) (One 𝓤 H A at-mem run) known (to-one ν ν′ δ δ′ (z .row) (z .store) (z .turn))
           (and-then ! (load ! (from ! (stop !)) (look ! 7 refl)) (and-then ! (load ! (from ! (stop !)) (look ! 9 refl)) (and-then ! (load ! (from ! (stop !)) (look ! 12 refl)) (and-then ! (load ! (from ! (stop !)) (look ! 4 refl)) (no-more !))))) (λ w.
-          use1 W (later (some (λ (r : Turn). ((‵ (flft (ν ∷ []) fullShare) ⊛ (‵ (flft (ν′ ∷ []) fullShare) ⊛ (‵ (flft κ₂ q₂) ⊛ ‵ ftrue))) ⊛ ‵ (N.the-row .own r (w ∷ [])))
+          use1 W (later (some (λ (r : Carried). ((‵ (flft (ν ∷ []) fullShare) ⊛ (‵ (flft (ν′ ∷ []) fullShare) ⊛ (‵ (flft κ₂ q₂) ⊛ ‵ ftrue))) ⊛ ‵ (N.the-row .own r (w ∷ [])))
           ⊛ raw (ensured 𝓤 H A one.ended (one.clauses 𝓤 H A at-mem run) (ν ∷ [], (ν′ ∷ [], (κ₂, tt))) (given-to δ δ′ (z .row) (z .store) (z .turn)) tt r)))) (id⊢ 𝓤 _) $ await ! tt $ pick ! (λ r.
           split ! $ move ! (1 ∷ []) $ use1 W (some (λ (ws : List Record × (List ℕ × (Unit {0} × (Unit {0} × Unit {0})))). ‵ (lasts one.ended (ν ∷ [], (ν′ ∷ [], (κ₂, tt))) (given-to δ δ′ (z .row) (z .store) (z .turn)) ws)
-          ⊛ raw (fact 𝓤 (Done (onDef ls z) (ws .0) (ws .1 .0) r)))) (id⊢ 𝓤 _) $ pick ! (λ ws.
-          split ! $ move ! (1 ∷ []) $ heard ! (Done (onDef ls z) (ws .0) (ws .1 .0) r) (λ g. fsplit ! $ fsplit ! $ move ! (1 ∷ []) $ feqL ! (λ k₀.
+          ⊛ raw (fact 𝓤 (Done (onDef ls (goes z)) (ws .0) (ws .1 .0) r)))) (id⊢ 𝓤 _) $ pick ! (λ ws.
+          split ! $ move ! (1 ∷ []) $ heard ! (Done (onDef ls (goes z)) (ws .0) (ws .1 .0) r) (λ g. fsplit ! $ fsplit ! $ move ! (1 ∷ []) $ feqL ! (λ k₀.
           move ! (1 ∷ []) $ fsplit ! $ fsplit ! $ move ! (1 ∷ []) $ feqL ! (λ k₁.
           move ! (3 ∷ []) $ split ! $ move ! (1 ∷ []) $ peeks ! N.the-row (Is N.the-row) (shows 𝓤 H A N.the-row) r (w ∷ []) (λ is.
           -- [the result; the tokens; the store's last value; …; the row's; list; the store's lender's part; the row's; _5; …]: both come back before the result lands
@@ -309,11 +319,11 @@ module _ {M : Type 1} (𝓤 : URA M) (H : Heap 𝓤) (A : Atoms 𝓤) (W : Given
           rewrite ! 6 (λ (u : Val). ‵ (fat fullShare N′.mir l₅ 0 u)) (ap only (LL.tells N.the-type N′.the-laws r _ is)) refl $
           forget ! 7 refl $ forget ! 8 refl $ forget ! 9 refl $ forget ! 10 refl $ forget ! 11 refl $
           move ! (2 ∷ 0 ∷ 6 ∷ []) $ join ! $ join ! $
-          use1 W (At l₅ t) (inv-in l₅ t (going (ws .0) (ws .1 .0) r) (
-            on-less t ls z (going (ws .0) (ws .1 .0) r) (f .0) g,
+          use1 W (At l₅ t) (inv-in l₅ t (state (ws .0) (ws .1 .0) r) (
+            on-less t ls (goes z) (goingWith (ws .0) (ws .1 .0) r) (f .0) g,
             (
               subst (Is N.the-row r) (LL.tells N.the-type N′.the-laws r _ is) is,
-              (k₀ ∙ f .1 .1 .0, (k₁ ∙ f .1 .1 .1 .0, (listed z (ws .0) (ws .1 .0) r (f .1 .1 .1 .1 .0) g, f .1 .1 .1 .1 .1 ∙ turns-go-on t ls z (going (ws .0) (ws .1 .0) r) (some-left (z .turn .left) k e) (f .0) g))),
+              (k₀ ∙ f .1 .1 .0, (k₁ ∙ f .1 .1 .1 .0, (listed z (ws .0) (ws .1 .0) r (f .1 .1 .1 .1 .0) g, f .1 .1 .1 .1 .1 ∙ turns-go-on t ls (goes z) (goingWith (ws .0) (ws .1 .0) r) (some-left (z .turn .left) k e) (f .0) g))),
             ),
           )) $
           move ! (1 ∷ []) $ split ! $
@@ -344,7 +354,7 @@ module _ {M : Type 1} (𝓤 : URA M) (H : Heap 𝓤) (A : Atoms 𝓤) (W : Given
         move ! (4 ∷ []) $ fsplit ! $ drop ! $ fsplit ! $ move ! (0 ∷ 1 ∷ 3 ∷ []) $ opens-slice ! tt u32 ss b₁ o₁ $ use1 W (‵ (cells (mem u32) ss b₁ o₁)) (whole-in 𝓤 H A W u32 ss b₁ o₁) $
         move ! (7 ∷ []) $ fsplit ! $ drop ! $ fsplit ! $ move ! (0 ∷ 1 ∷ 7 ∷ []) $ opens-slice ! tt R rs b₀ o₀ $ use1 W (‵ (cells (mem R) rs b₀ o₀)) (whole-in 𝓤 H A W R rs b₀ o₀) $
         move ! (0 ∷ 4 ∷ 20 ∷ []) $ join ! $ join ! $
-        use1 W (At l₅ (c₀ .left)) (inv-in l₅ (c₀ .left) (going rs ss c₀) (all-there (c₀ .left), (c₀-is, (refl, (refl, (within, refl)))))) $
+        use1 W (At l₅ (c₀ .left)) (inv-in l₅ (c₀ .left) (state rs ss c₀) (all-there (c₀ .left), (c₀-is, (refl, (refl, (within, refl)))))) $
         keep ! (0 ∷ 17 ∷ 15 ∷ 13 ∷ 11 ∷ 9 ∷ 26 ∷ 24 ∷ 22 ∷ 20 ∷ 28 ∷ 1 ∷ 2 ∷ 3 ∷ 4 ∷ 5 ∷ 6 ∷ 7 ∷ 8 ∷ 29 ∷ 27 ∷ 25 ∷ 23 ∷ 21 ∷ 19 ∷ 18 ∷ 16 ∷ 14 ∷ 12 ∷ 10 ∷ []) $
         into l₀ l₁ l₂ l₃ l₄ l₅ l₆ l₇ l₈ l₉ l₁₀)))))))))))
 
@@ -353,7 +363,7 @@ module _ {M : Type 1} (𝓤 : URA M) (H : Heap 𝓤) (A : Atoms 𝓤) (W : Given
   run-turns-walks 𝓣 known = walked 𝓤 H A run-turns.ended stayed (run-turns.clauses 𝓤 H A at-mem run) (WpFn 𝓤 H (𝓣 .C) (𝓣 .Λ) code.function)
       (λ κs. (slice-vals, (slice-vals, (slice-vals, (LL.vals N.the-type N′.the-laws, tt)))))
       (λ κs. (mut-slice-tells (named 0) (κs .0) R, (mut-slice-tells (named 1) (κs .1 .0) u32, (shr-slice-tells (named 2) (κs .1 .1 .0) u8, (LL.tells N.the-type N′.the-laws, tt)))))
-      (λ κs qs bounds a _ are. needs 𝓤 ((length (a .0 .now) ≡ 16) × ((length (a .1 .0 .now) ≡ 9216) × (a .1 .1 .1 .0 .pairs * 2 ≤ length (a .1 .1 .0 .now)))) _ (λ ok.
+      (λ κs qs bounds a _ are. needs 𝓤 ((length (a .0 .now) ≡ 16) × ((length (a .1 .0 .now) ≡ 9264) × (a .1 .1 .1 .0 .pairs * 2 ≤ length (a .1 .1 .0 .now)))) _ (λ ok.
       walk 𝓤 H A W at-mem run (κs .0) (κs .1 .0) (κs .1 .1 .0) (qs .0) (qs .1 .0) (qs .1 .1 .0) (a .0) (a .1 .0) (a .1 .1 .0) (a .1 .1 .1 .0) (are .1 .1 .1 .0) (ok .0) (ok .1 .0) (ok .1 .1)
       𝓣 (are .0 .0 .1) (are .1 .0 .0 .1) (are .1 .1 .0 .0 .1) known))
 

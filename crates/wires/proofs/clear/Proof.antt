@@ -10,6 +10,9 @@ use Rattle.wires.proofs.clear.Tie as tie
 mul-base : tie.Need-mul-base
 mul-base c = search needs
 
+add-base : tie.Need-add-base
+add-base c = search needs
+
 add-head : tie.Need-add-head
 add-head c = search needs
 
@@ -61,6 +64,7 @@ clear-spec =
     tie.close
     (tie.spec
     mul-base
+    add-base
     add-head
     mul-head
     slice-read-head

@@ -8,6 +8,9 @@ use Rattle.wires.proofs.first.Tie as tie
 mul-base : tie.Need-mul-base
 mul-base c = search needs
 
+add-base : tie.Need-add-base
+add-base c = search needs
+
 add-head : tie.Need-add-head
 add-head c = search needs
 
@@ -38,6 +41,7 @@ first-spec =
     tie.close
     (tie.spec
     mul-base
+    add-base
     add-head
     mul-head
     shared-slice-read-head

@@ -9,6 +9,9 @@ use Rattle.wires.proofs.queued.Tie as tie
 mul-base : tie.Need-mul-base
 mul-base c = search needs
 
+add-base : tie.Need-add-base
+add-base c = search needs
+
 add-result : tie.Need-add-result
 add-result c = search needs
 
@@ -27,4 +30,4 @@ returns c = record { answer = refl; list = sym (queue-length sixteen _ _) }
 pub queued-spec : {M : Type 1} → statement M
 queued-spec =
     tie.close
-    (tie.spec mul-base add-result mul-result shared-slice-read-result cast-result returns)
+    (tie.spec mul-base add-base add-result mul-result shared-slice-read-result cast-result returns)
