@@ -1,11 +1,13 @@
 //! Times whole calls of the proved library beside those of the independent
 //! program, interleaved in one process, and prints nanoseconds a message, or a
-//! pair of a list, for both and their ratio.
+//! pair of a list, for both and their ratio.  Two more ratios say what the form
+//! of the code costs: that of the library's own code in plain Rust, and that of
+//! the same with each record rewritten where it lies.
 //!
-//! Bare times depend on the machine and on what else it does; the ratio much
-//! less.  A round times both programs one after the other on the same case,
-//! and the table shows the median round of each, and the median of the
-//! rounds' ratios.
+//! Bare times depend on the machine and on what else it does; the ratios much
+//! less.  A round times a program and the independent one, one after the other on
+//! the same case, and the table shows the median round of each, and the median
+//! of the rounds' ratios.
 
 use compare::{Chance, Hub};
 use std::hint::black_box;
@@ -18,7 +20,19 @@ const ROUNDS: usize = 401;
 /// rounds, whatever else it has to do.
 const ROUND_NANOS: f64 = 2e5;
 
-/// A call, on which both programs must agree.
+/// The proved crates' code, written by build.rs without its contracts.
+#[allow(unused, clippy::all)]
+mod plain {
+    include!(concat!(env!("OUT_DIR"), "/plain.rs"));
+}
+
+/// The same, but for its row of records.
+#[allow(unused, clippy::all)]
+mod in_place {
+    include!(concat!(env!("OUT_DIR"), "/in_place.rs"));
+}
+
+/// A call, on which all programs must agree.
 enum Call {
     Drain { starts: u16 },
     Run { list: Vec<u8> },
@@ -94,6 +108,26 @@ impl Case {
         }
     }
 
+    /// What the library's code answers as plain Rust.
+    fn plain(&self, board: &mut [u16]) -> u32 {
+        let budget = derowlas::BUDGET;
+        match &self.call {
+            Call::Drain { starts } => plain::hub::drain(&self.sheet, *starts, budget, board),
+            Call::Run { list } => plain::hub::run(&self.sheet, list, board),
+        }
+        .moved
+    }
+
+    /// What it answers with each record rewritten where it lies.
+    fn in_place(&self, board: &mut [u16]) -> u32 {
+        let budget = derowlas::BUDGET;
+        match &self.call {
+            Call::Drain { starts } => in_place::hub::drain(&self.sheet, *starts, budget, board),
+            Call::Run { list } => in_place::hub::run(&self.sheet, list, board),
+        }
+        .moved
+    }
+
     /// What a time is divided by: a drain's messages, a list's pairs.
     fn units(&self, moved: u32) -> f64 {
         match &self.call {
@@ -117,6 +151,30 @@ fn median(mut all: Vec<f64>) -> f64 {
     all[all.len() / 2]
 }
 
+type Program = fn(&Case, &mut [u16]) -> u32;
+
+/// The programs that are held against the independent one, the library first.
+const PROGRAMS: [(&str, Program); 3] = [
+    ("proved", Case::proved),
+    ("in plain Rust", Case::plain),
+    ("record in place", Case::in_place),
+];
+
+/// Rounds of a program and of the independent one, in nanoseconds a call.
+/// Only two programs take turns, since each learns from the call before.
+fn rounds(case: &Case, program: Program, board: &mut [u16]) -> Vec<(f64, f64)> {
+    let one = time(3, || case.independent(board));
+    let times = (ROUND_NANOS / one).ceil() as usize;
+    (0..ROUNDS)
+        .map(|_| {
+            (
+                time(times, || program(case, board)),
+                time(times, || case.independent(board)),
+            )
+        })
+        .collect()
+}
+
 fn main() {
     let ring = Hub::of(16, |low, high| low + 1 == high || (low == 0 && high == 15));
     let cases = [
@@ -128,35 +186,30 @@ fn main() {
         Case::long_run("run, 60,000 bytes, mesh of 16", Hub::mesh(16)),
         Case::long_run("run, 60,000 bytes, line of 16", Hub::line(16)),
     ];
-    println!("| case | proved, ns | independent, ns | ratio |");
-    println!("|---|---:|---:|---:|");
+    println!("| case | proved, ns | independent, ns | ratio | in plain Rust | record in place |");
+    println!("|---|---:|---:|---:|---:|---:|");
     let mut worst: f64 = 0.0;
     for case in &cases {
-        let (mut ours, mut theirs) = (
-            vec![0; derowlas::BOARD_WORDS],
-            vec![0; derowlas::BOARD_WORDS],
-        );
-        let moved = case.proved(&mut ours);
-        assert_eq!(moved, case.independent(&mut theirs), "{}: moved", case.name);
-        assert_eq!(ours, theirs, "{}: the board", case.name);
-        let one = time(3, || case.independent(&mut theirs));
-        let times = (ROUND_NANOS / one).ceil() as usize;
-        let rounds: Vec<(f64, f64)> = (0..ROUNDS)
-            .map(|_| {
-                (
-                    time(times, || case.proved(&mut ours)),
-                    time(times, || case.independent(&mut theirs)),
-                )
-            })
-            .collect();
+        let mut board = vec![0; derowlas::BOARD_WORDS];
+        let moved = case.independent(&mut board);
+        let timed = PROGRAMS.map(|(name, program)| {
+            let mut other = vec![0; derowlas::BOARD_WORDS];
+            let also = program(case, &mut other);
+            assert_eq!(also, moved, "{}, {name}: moved", case.name);
+            assert_eq!(other, board, "{}, {name}: the board", case.name);
+            rounds(case, program, &mut other)
+        });
         let units = case.units(moved);
-        let ratio = median(rounds.iter().map(|(p, i)| p / i).collect());
-        worst = worst.max(ratio);
+        let ratio = |i: usize| median(timed[i].iter().map(|(p, i)| p / i).collect());
+        worst = worst.max(ratio(0));
         println!(
-            "| {} | {:.1} | {:.1} | {ratio:.2} |",
+            "| {} | {:.1} | {:.1} | {:.2} | {:.2} | {:.2} |",
             case.name,
-            median(rounds.iter().map(|r| r.0).collect()) / units,
-            median(rounds.iter().map(|r| r.1).collect()) / units,
+            median(timed[0].iter().map(|r| r.0).collect()) / units,
+            median(timed[0].iter().map(|r| r.1).collect()) / units,
+            ratio(0),
+            ratio(1),
+            ratio(2),
         );
     }
     println!("\nworst ratio {worst:.2}");
