@@ -1,10 +1,10 @@
 -- A step's parts as the code has them, one after the other, come to the step. Assumes nothing.
-use mathlib.Core.Path.{_≡_, refl, sym, ap, _∙_}
-use mathlib.Core.Bool.{true, false, cond}
+use mathlib.Core.Path.{_≡_, sym, ap, _∙_}
+use mathlib.Core.Bool.{true, false}
 use mathlib.Core.List.{List}
 use Prim.Native.Nat.{ℕ, _%_}
 use lib.Dec.{eqb}
-use Rattle.rules.specs.Box.{Box, started}
+use Rattle.rules.specs.Box.{started}
 use Rattle.boxes.specs.declared.Record.{Record}
 use Rattle.boxes.specs.declared.Arrival.{Arrival}
 use Rattle.boxes.specs.declared.Stepped.{Stepped}

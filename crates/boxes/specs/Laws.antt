@@ -1,9 +1,9 @@
 -- Laws of a box's step, for the hub's proof: the step by its cases, that neither cut is met, and that what it sends is what the rules send.
 -- Assumes nothing.
-use Prim.Native.Nat.{ℕ, zero, suc, _%_, _^_, _<_, _≤_, min}
+use Prim.Native.Nat.{ℕ, zero, suc, _%_, _^_, _<_, min}
 use native.Mathlib.Omega.{arith}
 use native.Mathlib.Nat.{mod-eq-of-lt}
-use mathlib.Core.Path.{_≡_, refl, sym, ap, _∙_}
+use mathlib.Core.Path.{_≡_, refl, ap, _∙_}
 use mathlib.Core.Bool.{Bool, true, false, cond}
 use mathlib.Core.List.{List, [], _∷_, _++_, map}
 use lib.Dec.{eqb}
@@ -13,8 +13,6 @@ use Rattle.rules.specs.Box.{Msg, notspt, neighbors, Box, started, startSends, t
 use Rattle.sets.specs.Loops.{getD-words}
 use Rattle.boxes.specs.declared.Record.{Record}
 use Rattle.boxes.specs.declared.Arrival.{Arrival}
-use Rattle.boxes.specs.declared.Departure.{Departure}
-use Rattle.boxes.specs.declared.Stepped.{Stepped}
 use Rattle.boxes.specs.Record.{boxOf, recordOf}
 use Rattle.boxes.specs.Step.{woken, taken, hopped, withoutEach, setsOf, originsOf, noSets, saveAll, isStopped, saved, settled, rounded, worked, stepDef}
 use Rattle.boxes.specs.Tables.{forEach-none}

@@ -2,7 +2,7 @@
 -- at 16 boxes. Two numbers are cut so that no call has a condition: a box's own number below 16, and HOP at the largest a record holds;
 -- Laws says that neither cut is met. Definitions alone.
 use Prim.Native.Nat.{ℕ, suc, _%_, min}
-use mathlib.Core.Bool.{Bool, true, false, cond}
+use mathlib.Core.Bool.{Bool, cond}
 use mathlib.Core.List.{List}
 use lib.Dec.{eqb}
 use lib.ListN.{set, replicate}
@@ -10,7 +10,6 @@ use Rattle.rules.specs.Sets.{without, word, words, forEach}
 use Rattle.rules.specs.Box.{Box, started, takeSets, before, stops}
 use Rattle.boxes.specs.declared.Record.{Record}
 use Rattle.boxes.specs.declared.Arrival.{Arrival}
-use Rattle.boxes.specs.declared.Departure.{Departure}
 use Rattle.boxes.specs.declared.Stepped.{Stepped}
 use Rattle.boxes.specs.Record.{boxOf, recordOf}
 

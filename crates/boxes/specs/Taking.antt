@@ -1,19 +1,19 @@
 -- A round's first half as the code does it: what is known and what was gained are kept beside the tables, and Nodes(HOP+1) is written once, after the
 -- last link. Proved: what that comes to is the rules' takeSets. Assumes nothing.
-use Prim.Native.Nat.{ℕ, zero, suc, _+_, _^_, _<_, _≤_}
+use Prim.Native.Nat.{ℕ, suc, _^_, _<_, _≤_}
 use native.Mathlib.Omega.{arith}
-use mathlib.Core.Path.{_≡_, refl, sym, ap, _∙_}
+use mathlib.Core.Path.{_≡_, refl, ap, _∙_}
 use mathlib.Core.Logic.{_≢_}
 use mathlib.Core.List.{List}
 use lib.Bits.{bitOr}
-use lib.ListN.{length, set, length-set}
+use lib.ListN.{length, length-set}
 use lib.Seq.{set-out}
 use Rattle.rules.specs.Sets.{mem, without, word, least, union, joinAt, forEach}
 use Rattle.sets.specs.Loops.{lowest-lt, rest-less, rest-small, rest-done, none-left}
 use Rattle.rules.specs.Box.{Box, takeSet, takeSets}
 use Rattle.boxes.specs.declared.Record.{Record}
 use Rattle.boxes.specs.Record.{boxOf, recordOf}
-use Rattle.boxes.specs.Tables.{join-none, without-none, join-join, union-join}
+use Rattle.boxes.specs.Tables.{join-none, join-join, union-join}
 
 -- the box that q is once Nodes(HOP+1) has what was gained
 unfoldable pub withGained : ℕ → Record → Box

@@ -1,7 +1,7 @@
 -- "A refusal returns its number, zero counts, not finished, and touches no lent board, table or buffer." "Acceptance answers 0", and nothing else does.
 -- Assumes nothing.
-use Prim.Native.Nat.{ℕ, zero, suc, _+_, _*_, _≤_, _<_}
-use mathlib.Core.Path.{_≡_, refl, sym, ap, _∙_}
+use Prim.Native.Nat.{ℕ, suc, _≤_}
+use mathlib.Core.Path.{_≡_, refl}
 use mathlib.Core.Bool.{Bool, true, false}
 use mathlib.Core.List.{List, [], _∷_}
 use mathlib.Core.Logic.{_≢_}
@@ -10,7 +10,7 @@ use lib.ListN.{length}
 use Rattle.rules.specs.Outcome.{Outcome, refused, accepted, refuse, andThen}
 use Rattle.rules.specs.Sheet.{Sheet, pairs, readSheet, writeSheet}
 use Rattle.rules.specs.Hub.{Hub}
-use Rattle.rules.specs.Calls.{Read, Written, Allowed, Ran, reading, readAnswer, writeAnswer, allowanceAnswer, hubAnswer, checkPairs, fitting, running, draining, onSheet, readCall, writeCall, allowanceCall, runCall, drainCall}
+use Rattle.rules.specs.Calls.{Ran, reading, readAnswer, writeAnswer, allowanceAnswer, hubAnswer, checkPairs, fitting, running, draining, onSheet, readCall, writeCall, allowanceCall, runCall, drainCall}
 
 -- ---- a refusal leaves nothing of the answer, and the lent words as they were
 

@@ -1,15 +1,15 @@
 -- The executable hops are the least length of a walk, and their laws: nothing past this file needs to speak of walks. Assumes nothing.
-use Prim.Native.Nat.{ℕ, zero, suc, _+_, _^_, _≤_, _<_}
-use mathlib.Core.Path.{_≡_, refl, sym, ap, _∙_}
-use mathlib.Core.Bool.{Bool, true, false, true≢false, false≢true}
-use mathlib.Core.List.{List, [], _∷_}
-use mathlib.Core.Logic.{_⊎_, inl, inr, ⊎-elim, _↔_, _≢_}
+use Prim.Native.Nat.{ℕ, zero, suc, _+_, _≤_, _<_}
+use mathlib.Core.Path.{_≡_, refl, sym, _∙_}
+use mathlib.Core.Bool.{true, true≢false}
+use mathlib.Core.List.{List}
+use mathlib.Core.Logic.{_≢_}
 use native.Mathlib.Omega.{arith}
-use native.Mathlib.Decide.{decLe, decLt}
-use Rattle.rules.specs.Sets.{mem, word, least}
+use native.Mathlib.Decide.{decLt}
+use Rattle.rules.specs.Sets.{mem, word}
 use Rattle.rules.specs.Rest.{Table, Walk, Least, within, hops}
 use Rattle.sets.specs.Mem.{in-lt}
-use Rattle.sets.specs.Loops.{by-bool, least-le, least-hit, least-ok, least-min}
+use Rattle.sets.specs.Loops.{least-le, least-hit, least-ok, least-min}
 use Rattle.hops.specs.Walks.{walk-lt, in-within, walk-within, least-lt, least-sym, least-unique, least-unsnoc, least-uncons}
 
 pub hops-le : (w : ℕ) (t : List ℕ) (i k : ℕ) → hops w t i k ≤ w + 2

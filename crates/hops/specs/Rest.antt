@@ -1,19 +1,19 @@
 -- What the tables at rest name: layers, the farthest member, the neighbour that a box takes an origin from. Assumes nothing.
 use Prim.Native.Nat.{ℕ, zero, suc, _+_, _-_, _^_, _≤_, _<_}
 use mathlib.Core.Path.{_≡_, refl, sym, ap, _∙_}
-use mathlib.Core.Bool.{Bool, true, false, not, _&&_, true≢false, false≢true}
-use mathlib.Core.List.{List, [], _∷_}
-use mathlib.Core.Logic.{_⊎_, inl, inr, ⊎-elim, _↔_, _≢_}
+use mathlib.Core.Bool.{Bool, true, false, _&&_, true≢false}
+use mathlib.Core.List.{List}
+use mathlib.Core.Logic.{_↔_, _≢_}
 use native.Mathlib.Omega.{arith}
-use native.Mathlib.Decide.{decLe, decLt}
+use native.Mathlib.Decide.{decLe}
 use lib.Dec.{eqb}
 use lib.Pow.{pow-pos}
-use Rattle.rules.specs.Sets.{mem, word, words, setOf, least}
+use Rattle.rules.specs.Sets.{mem, word, words, setOf}
 use Rattle.rules.specs.Rest.{Table, hops, layer, farthest, from, inAtRest, atRest}
 use Rattle.sets.specs.Mem.{mem-setOf, setOf-lt, in-lt, ext, mem-empty, and-both, and-true}
-use Rattle.sets.specs.Loops.{by-bool, least-le, least-hit, least-ok, least-min, some-member, getD-words}
+use Rattle.sets.specs.Loops.{by-bool, least-hit, least-ok, least-min, some-member, getD-words}
 use Rattle.sets.specs.Tables.{eqb-eq, eq-eqb, eqb-ne}
-use Rattle.hops.specs.Hops.{hops-le, hops-gap, hops-self, hops-zero, hops-sym, hops-step, hops-near, hops-between}
+use Rattle.hops.specs.Hops.{hops-le, hops-gap, hops-self, hops-zero, hops-near, hops-between}
 
 -- ---- layers
 

@@ -1,19 +1,19 @@
 -- What the owner's turns leave, in the words of the calls: the counts, the board, and that a refusal shows nothing. Assumes nothing.
-use Prim.Native.Nat.{ℕ, zero, suc, _+_, _-_, _*_, _%_, _≤_, _<_}
-use mathlib.Core.Path.{_≡_, refl, sym, ap, ap₂, _∙_, subst}
-use mathlib.Core.Bool.{Bool, true, false, cond, true≢false, false≢true}
-use mathlib.Core.List.{List, [], _∷_, _++_}
+use Prim.Native.Nat.{ℕ, _+_, _-_, _*_, _≤_, _<_}
+use mathlib.Core.Path.{_≡_, sym, ap, ap₂, _∙_, subst}
+use mathlib.Core.Bool.{Bool, true, false}
+use mathlib.Core.List.{List, _++_}
 use native.Mathlib.Omega.{arith}
 use native.Mathlib.Nat.{mod-eq-of-lt}
-use lib.Dec.{eqb, ltb}
+use lib.Dec.{eqb}
 use lib.ListN.{length, getD, drop}
 use borrow.Author.Tests.{lt-ltb, le-ltb}
 use Rattle.rules.specs.Sets.{mem, word, each, count}
-use Rattle.rules.specs.Outcome.{Outcome, refused, accepted, refuse}
+use Rattle.rules.specs.Outcome.{accepted, refuse}
 use Rattle.rules.specs.Hub.{Hub, sleeping, run, drain, underWay, block, boardOf}
 use Rattle.rules.specs.Rest.{Table, enough, wireCount, wiresOf}
 use Rattle.rules.specs.Calls.{Ran, hubAnswer, fitting}
-use Rattle.sets.specs.Loops.{by-bool, each-same, count-le}
+use Rattle.sets.specs.Loops.{each-same, count-le}
 use Rattle.order.specs.Terms.{Names}
 use Rattle.order.specs.Invariant.{Sound}
 use Rattle.order.specs.Drain.{drained}

@@ -1,20 +1,18 @@
 -- What the calls on the store come to in a turn's definitions: each law takes what the callees promise, and gives what the function promises.
 -- Assumes nothing.
 use Prim.Native.Nat.{ℕ, zero, suc, _+_, _-_, _%_, _^_, _<_}
-use native.Mathlib.Numerals.{add-one}
 use native.Mathlib.Omega.{arith}
 use mathlib.Core.Path.{_≡_, refl, sym, ap, _∙_}
 use mathlib.Core.Bool.{Bool, true, false, cond}
-use mathlib.Core.List.{List, [], _∷_}
+use mathlib.Core.List.{List}
 use lib.Bits.{bitOr}
 use lib.Dec.{ltb}
 use lib.ListN.{length, set}
 use borrow.Author.Tests.{lt-ltb, ltb-true}
-use Rattle.rules.specs.Sets.{mem, forEach}
 use Rattle.rules.specs.Box.{notspt, neighbors}
 use Rattle.sets.specs.Mem.{and-both}
 use Rattle.wires.specs.Words.{wordOf, isList, originOf, setOf}
-use Rattle.wires.specs.Wires.{sixteen, waiting, queued, hasRoom, pushed, Pushed, front, taken, takenWord, Taken}
+use Rattle.wires.specs.Wires.{sixteen, waiting, queued, Pushed, front, taken, Taken}
 use Rattle.wires.proofs.Ring.{ring-some}
 use Rattle.wires.proofs.Laws.{queue-length, take-law, sixteen-proper}
 use Rattle.mail.specs.declared.Letter.{Letter}

@@ -1,12 +1,12 @@
 -- What has come for one box in a round, as code takes it off the queues: the set at each head, and the lists behind it. Written with the store's own
 -- definitions. Definitions alone.
 use Prim.Native.Nat.{ℕ, zero, suc, _+_, _*_, _^_}
-use mathlib.Core.Bool.{Bool, true, false, _&&_, cond}
+use mathlib.Core.Bool.{Bool, _&&_, cond}
 use mathlib.Core.List.{List}
 use lib.Bits.{bitOr}
 use lib.Dec.{ltb}
 use lib.ListN.{set, replicate}
-use Rattle.rules.specs.Sets.{mem, word, forEach}
+use Rattle.rules.specs.Sets.{forEach}
 use Rattle.wires.specs.Wires.{sixteen, queued, front, taken, takenWord, cleared}
 use Rattle.wires.specs.Words.{isList, originOf, setOf}
 

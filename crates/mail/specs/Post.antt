@@ -1,9 +1,9 @@
 -- What goes out of one box in a turn, as code puts it on the wires: the store and the counts after it. Written with the store's own definitions.
 -- Definitions alone; that they come to the rules' `sendAll` is in Shows.
-use Prim.Native.Nat.{ℕ, zero, suc, _+_, _%_, _^_}
-use mathlib.Core.Bool.{Bool, true, false, cond}
+use Prim.Native.Nat.{ℕ, _+_, _%_}
+use mathlib.Core.Bool.{Bool, true, cond}
 use mathlib.Core.List.{List}
-use Rattle.rules.specs.Sets.{mem, word, forEach}
+use Rattle.rules.specs.Sets.{word, forEach}
 use Rattle.rules.specs.Box.{notspt, neighbors}
 use Rattle.wires.specs.Wires.{sixteen, hasRoom, pushed}
 use Rattle.wires.specs.Words.{wordOf}

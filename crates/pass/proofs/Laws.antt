@@ -22,7 +22,7 @@ use Rattle.turn.specs.declared.Pair.{Pair}
 use Rattle.turn.specs.declared.Receiver.{Receiver}
 use Rattle.pass.specs.declared.Glance.{Glance}
 use Rattle.turn.specs.Turn.{Turn, turnOf, lessOf, pairOf, nextPair, sleeps, quiet, begun, tookPair, Took, Put, nextTurn, putDef}
-use Rattle.turn.specs.Parts.{took, receiverFrom, receiverOf, quietTo, firstTo, deliveredTo, leftAfter, atAfter, movedAfter}
+use Rattle.turn.specs.Parts.{took, receiverOf, quietTo, firstTo, deliveredTo, leftAfter, atAfter, movedAfter}
 use Rattle.pass.specs.Pass.{Glanced, glanced, seenAs, glanceFirst, glanceTo, glancePair, kept, carriedOn, glanceAt, toAfter, quietTurn, quietStore, passOne, passTo, passAll}
 use Rattle.turn.proofs.Laws.{pick, delivered-is}
 

@@ -1,9 +1,9 @@
 -- The loops of the definitions: the first that passes, some, each, how many, sums, lists joined, and what is done for each member of a set. Assumes nothing.
 use Prim.Native.Nat.{ℕ, zero, suc, _+_, _-_, _/_, _%_, _^_, _≤_, _<_}
 use mathlib.Core.Path.{_≡_, refl, sym, ap, ap₂, _∙_}
-use mathlib.Core.Bool.{Bool, true, false, not, _&&_, _||_, cond, true≢false, false≢true}
+use mathlib.Core.Bool.{Bool, true, false, cond, true≢false, false≢true}
 use mathlib.Core.List.{List, [], _∷_, _++_}
-use mathlib.Core.Logic.{_⊎_, inl, inr, ⊎-elim, _≢_}
+use mathlib.Core.Logic.{_⊎_, ⊎-elim, _≢_}
 use native.Mathlib.Nat.{mod-lt, zero-lt-suc}
 use native.Mathlib.Omega.{arith}
 use native.Mathlib.Decide.{ℕ-discrete, decLt}
@@ -12,7 +12,7 @@ use lib.Count.{trailingZeros}
 use lib.ListN.{length, getD, length-append, List·getD-append, List·getD-eq-default}
 use lib.Pow.{pow-pos}
 use lib.Seq.{getD-at}
-use Rattle.rules.specs.Sets.{mem, without, bit, least, any, all, count, sum, each, words, members, forEach}
+use Rattle.rules.specs.Sets.{mem, without, bit, least, any, all, count, sum, each, words, forEach}
 use Rattle.sets.specs.Mem.{digit, mem-zero, mem-suc, mem-empty, mem-without, ext, bit-le, and-both, and-in, one-in, in-one, in-without, without-in, bool-ext, not-both}
 
 -- a test goes one of two ways, and each way knows which

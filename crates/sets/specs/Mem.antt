@@ -1,17 +1,16 @@
 -- Sets of boxes as numbers: what is a member of what. A set equation is a Boolean identity at each box (`ext`), and `Is w s P` says that s is the set of the
 -- boxes below w with the property P: an equation of two sets is then `same`, and two inclusions. Assumes nothing.
-use Prim.Native.Nat.{ℕ, zero, suc, _+_, _-_, _*_, _/_, _%_, _^_, _≤_, _<_, min, max}
-use mathlib.Core.Path.{_≡_, refl, sym, ap, ap₂, _∙_, subst}
+use Prim.Native.Nat.{ℕ, zero, suc, _+_, _-_, _*_, _/_, _%_, _^_, _≤_, _<_}
+use mathlib.Core.Path.{_≡_, refl, sym, ap, _∙_}
 use mathlib.Core.Bool.{Bool, true, false, not, _&&_, _||_, true≢false, false≢true, decide, decide-iff, and-self-left}
 use mathlib.Core.Logic.{_⊎_, inl, inr, ⊎-elim, _≢_}
-use native.Mathlib.Nat.{mod-lt, div-add-mod', pow-suc, div-lt-iff-lt-mul, zero-lt-suc}
-use native.Mathlib.Numerals.{add-one}
+use native.Mathlib.Nat.{mod-lt, zero-lt-suc}
 use native.Mathlib.Omega.{arith}
 use native.Mathlib.Decide.{decLe}
 use borrow.Author.Tests.{not-true}
-use lib.Dec.{T, eqb, ltb, eqb→eq, eqb-refl, eqb·zero-suc, eqb·suc-zero, eqb·suc-suc}
+use lib.Dec.{T, eqb, eqb→eq, eqb-refl, eqb·zero-suc, eqb·suc-zero, eqb·suc-suc}
 use lib.Bits.{bitAnd, bitOr, bitXor, and-shr, or-shr, xor-shr, and-mod, or-mod, xor-mod, xor-add-and, and-le-l, or-lt}
-use lib.Pow.{shr-shr, pow-pos}
+use lib.Pow.{shr-shr}
 use lib.Arith.{lt-one}
 use Rattle.rules.specs.Sets.{mem, without, bit, setOf}
 

@@ -14,7 +14,7 @@ use lib.Seq.{getD-append-add, drop-append-add, take-at, drop-drop, drop-cons, dr
 use Rattle.rules.specs.Sets.{word}
 use Rattle.rules.specs.Outcome.{accepted, refuse, andThen}
 use Rattle.rules.specs.Sheet.{Sheet, readSheet, pairs, pairBytes, mostLinks, linkCount, linkBytes, sheetBytes, proper, writeSheet, ReadsBack, WritesBack, PairsAlone}
-use Rattle.sheet_laws.specs.Conditions.{Words, B, P, N, version}
+use Rattle.sheet_laws.specs.Conditions.{B, P, N, version}
 use Rattle.sheet_laws.specs.Answers.{eqb-tests, ltb-tests, or-tests, above-zero}
 use Rattle.sheet_laws.specs.Proper.{proper-fine, fine-proper}
 use Rattle.sheet_laws.specs.Rising.{rising-chain}

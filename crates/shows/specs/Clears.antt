@@ -1,15 +1,15 @@
 -- A stopping box empties its queues: the store after the code has cleared them. And loops that differ nowhere that counts. Assumes nothing.
-use Prim.Native.Nat.{ℕ, zero, suc, _+_, _*_, _^_, _≤_, _<_}
+use Prim.Native.Nat.{ℕ, zero, suc, _≤_, _<_}
 use mathlib.Core.Path.{_≡_, refl, sym, ap, ap₂, _∙_}
-use mathlib.Core.Bool.{Bool, true, false, cond, true≢false}
-use mathlib.Core.List.{List, [], _∷_, _++_}
+use mathlib.Core.Bool.{true, false, true≢false}
+use mathlib.Core.List.{List, []}
 use mathlib.Core.Logic.{_⊎_, inl, inr, ⊎-elim, _≢_}
 use native.Mathlib.Omega.{arith}
 use native.Mathlib.Decide.{ℕ-discrete}
-use Rattle.rules.specs.Sets.{mem, word, forEach}
+use Rattle.rules.specs.Sets.{mem, forEach}
 use Rattle.rules.specs.Box.{Msg, Box, saveLists, saveHeads, takeSet, takeSets}
 use Rattle.sets.specs.Loops.{by-bool, forEach-keeps}
-use Rattle.wires.specs.Wires.{sixteen, Waiting, waiting, Formed, Others, cleared, Cleared}
+use Rattle.wires.specs.Wires.{sixteen, Waiting, waiting, Formed, cleared, Cleared}
 use Rattle.wires.proofs.Laws.{clear-law, sixteen-proper}
 use Rattle.mail.specs.Gather.{wireOf, clearTo}
 use Rattle.shows.specs.Held.{holdsBoth, wire-lt, wire-other}

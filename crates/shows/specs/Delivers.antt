@@ -1,40 +1,40 @@
 -- A delivery of the code shows the delivery of the rules, case by case; and so does a start. Assumes nothing.
-use Prim.Native.Nat.{ℕ, zero, suc, _+_, _*_, _%_, _^_, _≤_, _<_}
+use Prim.Native.Nat.{ℕ, _+_, _%_, _^_, _≤_, _<_}
 use mathlib.Core.Path.{_≡_, refl, sym, ap, ap₂, _∙_, subst}
 use mathlib.Core.Bool.{Bool, true, false, not, cond, true≢false, false≢true, _&&_, _||_}
-use mathlib.Core.List.{List, [], _∷_, _++_, map, map-append, append-nil}
+use mathlib.Core.List.{List, [], _∷_, _++_, map-append, append-nil}
 use mathlib.Core.Logic.{_⊎_, inl, inr, ⊎-elim, _≢_}
 use native.Mathlib.Omega.{arith}
 use native.Mathlib.Decide.{ℕ-discrete}
 use lib.Bits.{bitOr, or-lt, or-zero-l}
-use lib.Dec.{eqb, ltb}
+use lib.Dec.{eqb}
 use lib.ListN.{length, getD, set, length-set, length-append, replicate}
 use lib.Pow.{pow-lt}
 use borrow.Author.Tests.{lt-ltb}
-use Rattle.rules.specs.Sets.{mem, word, sum, all, upd}
+use Rattle.rules.specs.Sets.{mem, word, upd}
 use Rattle.rules.specs.Box.{Msg, notspt, neighbors, Box, Desk, started, startSends, behind, isSet, headSet, tail, allSets, takeSets, roundSends, stops, nextHop, saveHeads, receive}
 use Rattle.rules.specs.Hub.{Wire, Hub, popped, deliver, start, queuesOf}
-use Rattle.rules.specs.Rest.{Table, farthest}
-use Rattle.sets.specs.Mem.{mem-empty, mem-or, mem-one, mem-past, in-lt, ext}
+use Rattle.rules.specs.Rest.{Table}
+use Rattle.sets.specs.Mem.{mem-empty, ext}
 use Rattle.sets.specs.Loops.{by-bool, all-in, all-out, sum-same, sum-none}
 use Rattle.sets.specs.Tables.{eqb-eq, eq-eqb, ne-eqb, upd-same, upd-other}
 use Rattle.hops.specs.Rest.{far-lt}
 use Rattle.order.specs.Send.{left, settled}
-use Rattle.order.specs.Invariant.{Sound, Good, SeatOf, sleeps, wakes, rests, ways}
+use Rattle.order.specs.Invariant.{Sound, SeatOf, sleeps, wakes, rests, ways}
 use Rattle.order.specs.Settle.{room-of}
 use Rattle.order.specs.Moves.{good-held, full-link, deliver-none, delivered, firstDesk, start-cases, deliver-sound, start-sound}
-use Rattle.order.specs.Rounds.{links-lt, link-ne}
+use Rattle.order.specs.Rounds.{links-lt}
 use Rattle.wires.specs.Wires.{sixteen, Waiting, waiting, Formed, Others, queued, underWay, arrived, oldest, skipped, taken as takenOff, takenWord, Arrived, Skipped, Taken}
 use Rattle.wires.specs.Words.{wordOf, isList, originOf, setOf}
 use Rattle.wires.proofs.Laws.{queue-length, way-length, arrive-law, skip-law, take-law, sixteen-proper}
 use Rattle.boxes.specs.declared.Record.{Record}
 use Rattle.boxes.specs.declared.Arrival.{Arrival}
 use Rattle.boxes.specs.declared.Departure.{Departure}
-use Rattle.boxes.specs.Record.{boxOf, recordOf, blank}
+use Rattle.boxes.specs.Record.{blank}
 use Rattle.boxes.specs.Step.{stepDef, woken, taken, saved, saveAll, isStopped}
-use Rattle.boxes.specs.Laws.{saved-none, saved-stopped, saved-awake, taken-hop, taken-neighbors, woken-yes, woken-no}
+use Rattle.boxes.specs.Laws.{saved-none, saved-stopped, taken-hop, taken-neighbors, woken-yes, woken-no}
 use Rattle.mail.specs.Gather.{Got, gotNothing, wireOf, gatherTo, clearTo}
-use Rattle.turn.specs.Turn.{Turn, Took, sleeps as sleepsNow, quiet, oneList, roundOf, tookRound, tookFirst, delivered as deliveredNow, begun, heardAt, putDef, ends}
+use Rattle.turn.specs.Turn.{sleeps as sleepsNow, quiet, oneList, roundOf, tookRound, tookFirst, delivered as deliveredNow, begun, heardAt, putDef}
 use Rattle.turns.specs.Turns.{Going}
 use Rattle.shows.specs.Held.{wordsOf, heldOf, holdsBoth, Held, wire-lt, wire-other, length-words}
 use Rattle.shows.specs.Lists.{saved-more, saved-nothing}

@@ -1,21 +1,20 @@
 -- What the step makes of an arrival, as a desk to be settled: without a round, and with one. Assumes nothing.
-use Prim.Native.Nat.{ℕ, zero, suc, _+_, _*_, _%_, _^_, _≤_, _<_}
+use Prim.Native.Nat.{ℕ, suc, _+_, _%_, _^_, _≤_, _<_}
 use mathlib.Core.Path.{_≡_, refl, sym, ap, ap₂, _∙_, subst}
-use mathlib.Core.Bool.{Bool, true, false, not, cond, true≢false, false≢true, _&&_, _||_, or-true, or-false}
+use mathlib.Core.Bool.{Bool, true, false, cond, false≢true, _&&_, _||_, or-true, or-false}
 use mathlib.Core.List.{List, [], _∷_, _++_, map}
-use mathlib.Core.Logic.{_⊎_, inl, inr, ⊎-elim, _≢_}
+use mathlib.Core.Logic.{_⊎_, _≢_}
 use native.Mathlib.Omega.{arith}
-use native.Mathlib.Decide.{ℕ-discrete}
-use lib.Dec.{eqb, ltb}
+use lib.Dec.{eqb}
 use lib.ListN.{length, getD, length-append}
 use borrow.Author.Tests.{lt-ltb}
 use Rattle.rules.specs.Sets.{mem, word, members}
-use Rattle.rules.specs.Box.{Msg, notspt, neighbors, Box, Desk, started, startSends, takeSets, roundSends, stops, nextHop}
-use Rattle.rules.specs.Hub.{Wire, Hub}
+use Rattle.rules.specs.Box.{Msg, notspt, neighbors, Box, Desk, started, startSends, roundSends, stops, nextHop}
+use Rattle.rules.specs.Hub.{Hub}
 use Rattle.rules.specs.Rest.{Table}
 use Rattle.sets.specs.Mem.{mem-empty, and-both, in-lt}
 use Rattle.sets.specs.Loops.{by-bool}
-use Rattle.sets.specs.Tables.{eqb-eq, eq-eqb, ne-eqb}
+use Rattle.sets.specs.Tables.{eqb-eq}
 use Rattle.order.specs.Send.{left}
 use Rattle.wires.specs.Wires.{sixteen, underWay}
 use Rattle.boxes.specs.declared.Record.{Record}
@@ -24,12 +23,11 @@ use Rattle.boxes.specs.declared.Departure.{Departure}
 use Rattle.boxes.specs.Record.{boxOf, recordOf, blank}
 use Rattle.boxes.specs.Step.{stepDef, woken, taken, saved, isStopped, originsOf, setsOf}
 use Rattle.boxes.specs.Tables.{forEach-none}
-use Rattle.boxes.specs.Laws.{woken-yes, woken-no, round-record, still-record, started-own, started-stops, start-sends, box-sends}
+use Rattle.boxes.specs.Laws.{woken-yes, woken-no, round-record, still-record, started-stops, start-sends, box-sends}
 use Rattle.mail.specs.Gather.{wireOf, clearTo}
-use Rattle.turn.specs.Turn.{ends, letter}
+use Rattle.turn.specs.Turn.{ends}
 use Rattle.turns.specs.Turns.{Going}
 use Rattle.shows.specs.Held.{Held}
-use Rattle.shows.specs.Posts.{letterList}
 use Rattle.shows.specs.Shows.{Shows, Does, some}
 use Rattle.shows.specs.Steps.{Passes, passes, ends-still, ends-round, wakeSends, says-still, says-round}
 

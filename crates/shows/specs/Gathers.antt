@@ -1,25 +1,25 @@
 -- What a turn gathers for a round is what the rules take from the queues: the set at each head, and the lists behind it. Assumes nothing.
-use Prim.Native.Nat.{ℕ, zero, suc, _+_, _*_, _%_, _/_, _^_, _≤_, _<_}
+use Prim.Native.Nat.{ℕ, zero, suc, _+_, _*_, _^_, _≤_, _<_}
 use mathlib.Core.Path.{_≡_, refl, sym, ap, ap₂, _∙_, subst}
-use mathlib.Core.Bool.{Bool, true, false, cond, true≢false, _||_, _&&_, or-true, or-false}
-use mathlib.Core.List.{List, [], _∷_, _++_, map}
+use mathlib.Core.Bool.{Bool, true, false, cond, true≢false, or-true, or-false}
+use mathlib.Core.List.{List, [], _∷_}
 use mathlib.Core.Logic.{_⊎_, inl, inr, ⊎-elim, _≢_}
 use native.Mathlib.Omega.{arith}
-use native.Mathlib.Decide.{ℕ-discrete, decLt}
+use native.Mathlib.Decide.{ℕ-discrete}
 use lib.Bits.{bitOr, or-lt}
-use lib.Dec.{eqb, ltb, leb}
-use lib.ListN.{length, getD, set, length-set, replicate}
+use lib.Dec.{ltb}
+use lib.ListN.{length, set, length-set, replicate}
 use lib.Pow.{pow-lt}
 use lib.Seq.{getD-set-same, getD-set-other}
-use borrow.Author.Tests.{le-leb, lt-leb, lt-ltb, le-ltb}
-use Rattle.rules.specs.Sets.{mem, word, forEach}
+use borrow.Author.Tests.{le-leb, lt-leb, lt-ltb}
+use Rattle.rules.specs.Sets.{mem, word}
 use Rattle.rules.specs.Box.{Msg, notspt, neighbors, lists, behind, saveLists, saveHeads, isSet, headSet, tail}
 use Rattle.rules.specs.Hub.{Wire}
 use Rattle.sets.specs.Mem.{mem-or, mem-one, mem-empty}
 use Rattle.sets.specs.Loops.{by-bool, forEach-keeps}
 use Rattle.sets.specs.Tables.{eq-eqb, ne-eqb}
 use Rattle.order.specs.Round.{has-head}
-use Rattle.wires.specs.Wires.{sixteen, Waiting, waiting, Formed, Others, queued, front, taken, takenWord, First, Taken}
+use Rattle.wires.specs.Wires.{sixteen, Waiting, waiting, Formed, Others, queued, front, taken, takenWord, Taken}
 use Rattle.wires.specs.Words.{wordOf, isList, originOf, setOf, Small}
 use Rattle.wires.proofs.Laws.{queue-length, first-law, take-law, sixteen-proper}
 use Rattle.boxes.specs.Step.{saveAll}

@@ -1,16 +1,15 @@
 -- The store holds the hub's waiting messages: what each wire's words say is what waits on it in the rules. Definitions, and how it is kept.
 -- Assumes nothing.
-use Prim.Native.Nat.{ℕ, zero, suc, _+_, _*_, _%_, _^_, _≤_, _<_}
-use mathlib.Core.Path.{_≡_, refl, sym, ap, ap₂, _∙_}
-use mathlib.Core.Bool.{Bool, true, false, cond, true≢false, _||_}
-use mathlib.Core.List.{List, [], _∷_, _++_, map}
+use Prim.Native.Nat.{ℕ, _+_, _%_, _<_}
+use mathlib.Core.Path.{_≡_, sym, ap, _∙_}
+use mathlib.Core.Bool.{cond, _||_}
+use mathlib.Core.List.{List, map}
 use mathlib.Core.Logic.{_⊎_, inl, inr, ⊎-elim, _≢_}
 use native.Mathlib.Omega.{arith}
 use native.Mathlib.Decide.{ℕ-discrete}
 use lib.ListN.{length, length-map}
-use Rattle.rules.specs.Sets.{upd}
 use Rattle.rules.specs.Box.{Msg}
-use Rattle.rules.specs.Hub.{Wire, Hub}
+use Rattle.rules.specs.Hub.{Wire}
 use Rattle.wires.specs.Wires.{sixteen, Waiting, waiting, Formed, Others}
 use Rattle.wires.specs.Words.{wordOf}
 use Rattle.tables.specs.Tables.{withEntry, withHeard, withBusy}

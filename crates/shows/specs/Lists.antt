@@ -1,18 +1,17 @@
 -- Lists saved one after the other, and all at once: a table with its listed entries replaced. Assumes nothing.
-use Prim.Native.Nat.{ℕ, zero, suc, _+_, _^_, _≤_, _<_}
-use mathlib.Core.Path.{_≡_, refl, sym, ap, ap₂, _∙_}
-use mathlib.Core.Bool.{Bool, true, false, cond, true≢false, _||_, or-true, or-false}
-use mathlib.Core.List.{List, [], _∷_, _++_, map}
-use mathlib.Core.Logic.{_⊎_, inl, inr, ⊎-elim, _≢_}
+use Prim.Native.Nat.{ℕ, _^_, _≤_, _<_}
+use mathlib.Core.Path.{_≡_, refl, sym, ap, _∙_}
+use mathlib.Core.Bool.{Bool, cond, _||_, or-true, or-false}
+use mathlib.Core.List.{List}
 use native.Mathlib.Omega.{arith}
-use native.Mathlib.Decide.{ℕ-discrete, decLt}
+use native.Mathlib.Decide.{ℕ-discrete}
 use lib.Bits.{bitOr}
 use lib.Dec.{eqb}
-use lib.ListN.{length, getD, set, length-set}
+use lib.ListN.{length, set, length-set}
 use lib.Seq.{getD-set-same, getD-set-other, ext-getD}
-use Rattle.rules.specs.Sets.{mem, word, forEach}
+use Rattle.rules.specs.Sets.{mem, word}
 use Rattle.sets.specs.Mem.{mem-or, mem-one, mem-empty}
-use Rattle.sets.specs.Loops.{by-bool, forEach-keeps}
+use Rattle.sets.specs.Loops.{forEach-keeps}
 use Rattle.sets.specs.Tables.{eq-eqb, ne-eqb}
 use Rattle.boxes.specs.Step.{saveAll}
 

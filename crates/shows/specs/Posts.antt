@@ -1,9 +1,9 @@
 -- What a turn posts is what the rules send: word by word, list by list, link by link. Assumes nothing.
-use Prim.Native.Nat.{ℕ, zero, suc, _+_, _*_, _%_, _^_, _≤_, _<_}
+use Prim.Native.Nat.{ℕ, zero, suc, _+_, _%_, _≤_, _<_}
 use mathlib.Core.Path.{_≡_, refl, sym, ap, ap₂, _∙_}
-use mathlib.Core.Bool.{Bool, true, false, cond, true≢false}
+use mathlib.Core.Bool.{Bool, true, false, cond}
 use mathlib.Core.List.{List, [], _∷_, _++_, map, map-append, append-nil}
-use mathlib.Core.Logic.{_⊎_, inl, inr, ⊎-elim, _≢_}
+use mathlib.Core.Logic.{_⊎_, ⊎-elim}
 use native.Mathlib.Omega.{arith}
 use native.Mathlib.Decide.{ℕ-discrete}
 use lib.Dec.{ltb}
@@ -13,7 +13,7 @@ use Rattle.rules.specs.Box.{Msg, notspt, neighbors}
 use Rattle.rules.specs.Hub.{Wire, Hub, send, sendList, sendAll}
 use Rattle.sets.specs.Loops.{by-bool}
 use Rattle.sets.specs.Tables.{upd-same, upd-other}
-use Rattle.wires.specs.Wires.{sixteen, Waiting, waiting, Formed, Others, hasRoom, pushed, joinWay, Pushed}
+use Rattle.wires.specs.Wires.{sixteen, Waiting, hasRoom, pushed, joinWay, Pushed}
 use Rattle.wires.specs.Words.{wordOf}
 use Rattle.wires.proofs.Laws.{push-law, sixteen-proper}
 use Rattle.mail.specs.Post.{Posted, postWord, postLists, postIf}

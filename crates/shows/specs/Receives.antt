@@ -1,18 +1,18 @@
 -- What one message does at a box that is awake between two deliveries, case by case: it waits behind another; it is a list, and saved at once; it is a set,
 -- and waits for the other links; it is the set that was waited for, and a round is done. Pointwise, for any number of boxes. Assumes nothing.
 use Prim.Native.Nat.{ℕ, zero, suc, _+_, _≤_, _<_}
-use mathlib.Core.Path.{_≡_, refl, sym, ap, ap₂, _∙_, fun-ext}
-use mathlib.Core.Bool.{Bool, true, false, not, cond, true≢false, false≢true, _&&_, _||_}
-use mathlib.Core.List.{List, [], _∷_, _++_, map, append-nil}
+use mathlib.Core.Path.{_≡_, refl, sym, ap, _∙_, fun-ext}
+use mathlib.Core.Bool.{Bool, true, false, not, cond, false≢true, _||_}
+use mathlib.Core.List.{List, [], _∷_, _++_}
 use mathlib.Core.Logic.{_⊎_, inl, inr, ⊎-elim, _≢_}
 use native.Mathlib.Omega.{arith}
 use native.Mathlib.Decide.{ℕ-discrete}
 use lib.Dec.{eqb}
 use lib.ListN.{length, set}
-use Rattle.rules.specs.Sets.{mem, word, all, upd}
+use Rattle.rules.specs.Sets.{mem, all, upd}
 use Rattle.rules.specs.Box.{Msg, notspt, neighbors, Box, Desk, lists, behind, saveLists, saveHeads, save, isSet, headSet, tail, allSets, takeSets, roundSends, stops, nextHop, round, work, receive}
 use Rattle.sets.specs.Loops.{by-bool, all-out}
-use Rattle.sets.specs.Tables.{eq-eqb, ne-eqb, upd-same, upd-other}
+use Rattle.sets.specs.Tables.{eq-eqb, upd-same, upd-other}
 
 -- ---- a queue with no list at its head
 

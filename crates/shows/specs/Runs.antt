@@ -1,32 +1,31 @@
 -- The turns of the code come to the run of the list and then the drain of the rules. Assumes nothing.
-use Prim.Native.Nat.{ℕ, zero, suc, _+_, _*_, _-_, _/_, _%_, _^_, _≤_, _<_}
+use Prim.Native.Nat.{ℕ, zero, suc, _+_, _*_, _-_, _/_, _%_, _^_, _<_}
 use mathlib.Core.Path.{_≡_, refl, sym, ap, ap₂, _∙_, subst}
-use mathlib.Core.Bool.{Bool, true, false, not, cond, true≢false, false≢true, _&&_, _||_}
-use mathlib.Core.List.{List, [], _∷_, _++_}
-use mathlib.Core.Logic.{_⊎_, inl, inr, ⊎-elim, _≢_}
+use mathlib.Core.Bool.{Bool, true, false, cond, true≢false, _||_}
+use mathlib.Core.List.{List, [], _∷_}
+use mathlib.Core.Logic.{_≢_}
 use native.Mathlib.Omega.{arith}
 use native.Mathlib.Nat.{mod-eq-of-lt}
-use native.Mathlib.Decide.{ℕ-discrete, decLt}
 use lib.Bits.{bitOr}
 use lib.Dec.{eqb, ltb}
-use lib.ListN.{length, getD, set, drop, replicate, length-replicate, getD-replicate, length-drop}
+use lib.ListN.{length, getD, drop, getD-replicate}
 use lib.Seq.{getD-drop, drop-drop}
-use borrow.Author.Tests.{lt-ltb, le-ltb, ltb-true, ltb-false}
+use borrow.Author.Tests.{lt-ltb, le-ltb, ltb-true}
 use Rattle.rules.specs.Sets.{mem, word, least, any}
-use Rattle.rules.specs.Box.{Msg, Box, asleep}
-use Rattle.rules.specs.Hub.{Wire, Hub, sleeping, start, deliver, act, run, drain, holds, sender, receiver}
+use Rattle.rules.specs.Box.{Msg, asleep}
+use Rattle.rules.specs.Hub.{Hub, sleeping, deliver, act, run, drain, holds, sender, receiver}
 use Rattle.rules.specs.Rest.{Table}
 use Rattle.sets.specs.Mem.{mem-empty}
 use Rattle.sets.specs.Loops.{by-bool, least-ok, least-hit, least-same, any-out}
 use Rattle.sets.specs.Tables.{eqb-eq, eq-eqb, ne-eqb}
 use Rattle.order.specs.Invariant.{Sound}
-use Rattle.order.specs.Terms.{Names, Reached, begin}
+use Rattle.order.specs.Terms.{Names, begin}
 use Rattle.order.specs.Reached.{sound}
 use Rattle.order.specs.Moves.{deliver-sound, start-sound, full-link}
-use Rattle.wires.specs.Wires.{sixteen, none, queued, underWay, waiting, Waiting}
+use Rattle.wires.specs.Wires.{sixteen, queued, underWay, Waiting}
 use Rattle.wires.specs.Words.{isList}
 use Rattle.wires.proofs.Laws.{way-length}
-use Rattle.tables.specs.Tables.{linksOf, heardOf, busyOf, laid}
+use Rattle.tables.specs.Tables.{laid}
 use Rattle.tables.proofs.Laws.{entries-length, laid-waits, laid-formed, laid-links, laid-heard, laid-busy}
 use Rattle.boxes.specs.declared.Arrival.{Arrival}
 use Rattle.boxes.specs.declared.Departure.{Departure}

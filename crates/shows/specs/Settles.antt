@@ -1,27 +1,24 @@
 -- A box that settles twice settles once, with both its sendings; and what the code posts for a settled box. Assumes nothing.
-use Prim.Native.Nat.{ℕ, zero, suc, _+_, _*_, _%_, _^_, _≤_, _<_}
-use mathlib.Core.Path.{_≡_, refl, sym, ap, ap₂, _∙_, fun-ext, subst}
-use mathlib.Core.Bool.{Bool, true, false, cond, true≢false, false≢true}
-use mathlib.Core.List.{List, [], _∷_, _++_, map, append-nil, append-assoc}
-use mathlib.Core.Logic.{_⊎_, inl, inr, ⊎-elim, _≢_}
+use Prim.Native.Nat.{ℕ, _+_, _^_, _≤_, _<_}
+use mathlib.Core.Path.{_≡_, refl, sym, ap, _∙_, fun-ext, subst}
+use mathlib.Core.Bool.{true, false, cond}
+use mathlib.Core.List.{List, [], _++_, append-nil, append-assoc}
 use native.Mathlib.Omega.{arith}
-use native.Mathlib.Decide.{ℕ-discrete, decLt}
+use native.Mathlib.Decide.{ℕ-discrete}
 use lib.Dec.{eqb}
 use lib.ListN.{length, length-append}
-use Rattle.rules.specs.Sets.{mem, word, sum, forEach, upd}
-use Rattle.rules.specs.Box.{Msg, Box, Desk}
-use Rattle.rules.specs.Hub.{Wire, Hub, sendAll, settle}
-use Rattle.rules.specs.Rest.{Table}
+use Rattle.rules.specs.Sets.{mem, sum, forEach, upd}
+use Rattle.rules.specs.Box.{Msg, Desk}
+use Rattle.rules.specs.Hub.{Hub, sendAll, settle}
 use Rattle.sets.specs.Mem.{mem-past, in-lt}
 use Rattle.sets.specs.Loops.{by-bool, sum-same}
-use Rattle.sets.specs.Tables.{eqb-eq, eq-eqb, ne-eqb, upd-same, upd-other}
+use Rattle.sets.specs.Tables.{upd-same, upd-other}
 use Rattle.order.specs.Sums.{sum-plus}
-use Rattle.order.specs.Send.{left, sendsOf, settled, settle-is}
+use Rattle.order.specs.Send.{left, settled, settle-is}
 use Rattle.mail.specs.declared.Letter.{Letter}
 use Rattle.mail.specs.Letter.{postLink}
 use Rattle.mail.specs.Post.{Posted}
 use Rattle.mail.specs.Gather.{wireOf}
-use Rattle.shows.specs.Held.{heldOf, Held, held-same}
 use Rattle.shows.specs.Posts.{Sends, letterList, toLinks, all-shows}
 
 -- ---- two hubs that show the same: all but the history

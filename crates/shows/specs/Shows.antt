@@ -1,24 +1,23 @@
 -- The code's row, store and turn beside the rules' hub, and that a turn which does what a settled box does shows the settled hub. Assumes nothing.
-use Prim.Native.Nat.{ℕ, zero, suc, _+_, _*_, _-_, _%_, _^_, _≤_, _<_}
+use Prim.Native.Nat.{ℕ, suc, _+_, _-_, _%_, _^_, _≤_, _<_}
 use mathlib.Core.Path.{_≡_, refl, sym, ap, ap₂, _∙_, subst, subst₂}
-use mathlib.Core.Bool.{Bool, true, false, not, cond, true≢false, false≢true, _&&_, _||_, and-true, and-false, or-true, or-false}
-use mathlib.Core.List.{List, [], _∷_, _++_, append-nil}
+use mathlib.Core.Bool.{Bool, true, false, not, cond, _&&_, _||_, and-true, and-false, or-true, or-false}
+use mathlib.Core.List.{List, [], _∷_, _++_}
 use mathlib.Core.Logic.{_⊎_, inl, inr, ⊎-elim, _≢_}
 use native.Mathlib.Omega.{arith}
-use native.Mathlib.Decide.{ℕ-discrete, decLt}
-use lib.Bits.{bitOr, or-lt}
+use native.Mathlib.Decide.{ℕ-discrete}
+use lib.Bits.{bitOr}
 use lib.Dec.{eqb, ltb}
-use lib.ListN.{length, getD, set, length-set, length-append}
-use lib.Pow.{pow-lt}
+use lib.ListN.{length, getD, set, length-set}
 use lib.Seq.{getD-set-same, getD-set-other}
-use borrow.Author.Tests.{lt-ltb, le-ltb}
-use Rattle.rules.specs.Sets.{mem, without, word, sum, forEach, upd}
+use borrow.Author.Tests.{lt-ltb}
+use Rattle.rules.specs.Sets.{mem, without, word, forEach}
 use Rattle.rules.specs.Box.{Msg, Box, Desk}
-use Rattle.rules.specs.Hub.{Wire, Hub, popped}
+use Rattle.rules.specs.Hub.{Hub}
 use Rattle.rules.specs.Rest.{Table}
-use Rattle.sets.specs.Mem.{mem-or, mem-without, mem-one, mem-empty, mem-past, in-lt}
+use Rattle.sets.specs.Mem.{mem-or, mem-without, mem-one}
 use Rattle.sets.specs.Loops.{by-bool}
-use Rattle.sets.specs.Tables.{eqb-eq, eq-eqb, ne-eqb, upd-same, upd-other}
+use Rattle.sets.specs.Tables.{eq-eqb, ne-eqb, upd-same, upd-other}
 use Rattle.order.specs.Send.{left, settled}
 use Rattle.wires.specs.Wires.{sixteen, Waiting, underWay}
 use Rattle.boxes.specs.declared.Record.{Record}
@@ -27,11 +26,11 @@ use Rattle.boxes.specs.Record.{boxOf, recordOf, blank, box-record}
 use Rattle.mail.specs.Letter.{postLink}
 use Rattle.mail.specs.Post.{Posted}
 use Rattle.mail.specs.Gather.{wireOf, clearTo}
-use Rattle.turn.specs.Turn.{Turn, lessOf, keptTables, Put, letter, postTo, lessBusy, moreBusy, ends, nextTurn, putDef}
+use Rattle.turn.specs.Turn.{Turn, lessOf, keptTables, letter, postTo, lessBusy, moreBusy, ends, nextTurn, putDef}
 use Rattle.turns.specs.Turns.{Going}
 use Rattle.shows.specs.Held.{heldOf, Held, held-same, held-tables}
 use Rattle.shows.specs.Posts.{Sends, letterList, next-count}
-use Rattle.shows.specs.Settles.{Alike, settled-queue, settled-way, settled-boxes, settled-sent, settled-moved, settled-full, posts-settled}
+use Rattle.shows.specs.Settles.{Alike, settled-queue, settled-way, settled-boxes, settled-moved, posts-settled}
 
 -- a message waits
 abbrev pub some : List Msg → Bool

@@ -1,12 +1,12 @@
 -- On every hub that the rules reach, each message that waits fits a word, and a box's queues are as its state says. Assumes nothing.
-use Prim.Native.Nat.{ℕ, zero, suc, _+_, _^_, _≤_, _<_}
-use mathlib.Core.Path.{_≡_, refl, sym, ap, ap₂, _∙_, subst}
-use mathlib.Core.Bool.{Bool, true, false, true≢false}
+use Prim.Native.Nat.{ℕ, zero, suc, _+_, _<_}
+use mathlib.Core.Path.{_≡_, refl, sym, ap, _∙_, subst}
+use mathlib.Core.Bool.{true, false, true≢false}
 use mathlib.Core.List.{List, [], _∷_, _++_}
-use mathlib.Core.Logic.{_⊎_, inl, inr, ⊎-elim, _≢_}
+use mathlib.Core.Logic.{_⊎_, inl, inr, _≢_}
 use native.Mathlib.Omega.{arith}
-use Rattle.rules.specs.Sets.{mem, word, members}
-use Rattle.rules.specs.Box.{Msg, notspt, neighbors, Box, behind, asleep}
+use Rattle.rules.specs.Sets.{mem, word}
+use Rattle.rules.specs.Box.{Msg, Box, behind, asleep}
 use Rattle.rules.specs.Hub.{Hub, Wire, noWire}
 use Rattle.rules.specs.Rest.{Table, saidSet}
 use Rattle.sets.specs.Mem.{setOf-lt, in-lt}
@@ -14,7 +14,7 @@ use Rattle.sets.specs.Loops.{by-bool}
 use Rattle.order.specs.Messages.{In, members-get, carry}
 use Rattle.order.specs.Stream.{stream}
 use Rattle.order.specs.Wire.{wire, carried, origins}
-use Rattle.order.specs.Invariant.{Seat, sleeps, wakes, rests, Good, spoken, SeatOf}
+use Rattle.order.specs.Invariant.{sleeps, wakes, rests, Good, SeatOf}
 use Rattle.shows.specs.Gathers.{AllSmall}
 use Rattle.shows.specs.Receives.{calm-empty}
 

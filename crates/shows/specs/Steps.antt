@@ -1,20 +1,17 @@
 -- The step of the code in the words of a desk: what it sends to each link, and when it ends, without a round and with one. Assumes nothing.
-use Prim.Native.Nat.{ℕ, zero, suc, _+_, _%_, _^_, _≤_, _<_}
+use Prim.Native.Nat.{ℕ, _+_, _%_, _^_, _<_}
 use mathlib.Core.Path.{_≡_, refl, sym, ap, ap₂, _∙_}
-use mathlib.Core.Bool.{Bool, true, false, not, cond, true≢false, false≢true, _&&_, _||_, or-false}
-use mathlib.Core.List.{List, [], _∷_, _++_, map, append-nil}
+use mathlib.Core.Bool.{Bool, true, false, cond, _&&_, _||_, or-false}
+use mathlib.Core.List.{List, [], _∷_, _++_, append-nil}
 use native.Mathlib.Omega.{arith}
-use lib.Dec.{eqb, ltb}
-use lib.ListN.{length}
-use Rattle.rules.specs.Sets.{mem, word, members}
-use Rattle.rules.specs.Box.{Msg, notspt, neighbors, Box, started, startSends, takeSets, roundSends, stops, nextHop}
+use Rattle.rules.specs.Sets.{mem, word}
+use Rattle.rules.specs.Box.{Msg, notspt, neighbors, startSends, roundSends, stops}
 use Rattle.sets.specs.Loops.{by-bool}
 use Rattle.boxes.specs.declared.Record.{Record}
 use Rattle.boxes.specs.declared.Arrival.{Arrival}
 use Rattle.boxes.specs.declared.Departure.{Departure}
-use Rattle.boxes.specs.Record.{boxOf, recordOf}
-use Rattle.boxes.specs.Step.{stepDef, woken, taken, saved, settled, rounded, isStopped, hopped, noSets}
-use Rattle.boxes.specs.Laws.{woken-yes, woken-no, step-round, step-still, round-sends, round-record, round-stops, still-record, still-stops, started-own, start-sends, said}
+use Rattle.boxes.specs.Step.{stepDef, woken, taken, settled, rounded, isStopped}
+use Rattle.boxes.specs.Laws.{step-round, step-still, round-sends, round-stops, still-stops, start-sends}
 use Rattle.turn.specs.Turn.{letter, ends}
 use Rattle.shows.specs.Posts.{letterList, setIf, listsFor}
 

@@ -1,18 +1,18 @@
 -- What the entries before the wires' words are after a store of one, and after every call on the wires; and that a wire is as it was after a store of an entry.
 -- Assumes nothing.
-use Prim.Native.Nat.{ℕ, zero, suc, _+_, _*_, _%_, _≤_, _<_}
+use Prim.Native.Nat.{ℕ, zero, suc, _+_, _%_, _≤_, _<_}
 use native.Mathlib.Nat.{add-zero, mod-eq-of-lt}
-use native.Mathlib.Decide.{ℕ-discrete, decLt}
+use native.Mathlib.Decide.{ℕ-discrete}
 use native.Mathlib.Omega.{arith}
 use mathlib.Core.Path.{_≡_, refl, sym, ap, ap₂, _∙_}
 use mathlib.Core.Logic.{_≢_}
 use mathlib.Core.Bool.{Bool, true, false, cond}
 use mathlib.Core.List.{List, [], _∷_}
 use lib.Dec.{eqb}
-use lib.ListN.{length, set, replicate, length-set, length-replicate, getD-replicate}
+use lib.ListN.{length, set, length-set, length-replicate, getD-replicate}
 use lib.Seq.{getD-set-same, getD-set-other, ext-getD}
 use Rattle.rules.specs.Sets.{word}
-use Rattle.wires.specs.Wires.{sixteen, place, storeSize, Waiting, Formed, head, queued, underWay, waiting, none, hasRoom, pushed, arrived, skipped, taken, cleared}
+use Rattle.wires.specs.Wires.{sixteen, place, Formed, queued, underWay, waiting, none, hasRoom, pushed, arrived, skipped, taken, cleared}
 use Rattle.wires.proofs.Laws.{waiting-agree, none-law, sixteen-proper}
 use Rattle.tables.specs.Tables.{entryOf, withEntry, entries, linksOf, heardOf, busyOf, withHeard, withBusy, layTo, laid}
 

@@ -15,7 +15,7 @@ use Rattle.mail.specs.declared.Letter.{Letter}
 use Rattle.mail.specs.Post.{Posted}
 use Rattle.mail.specs.Letter.{postLink}
 use Rattle.mail.specs.Gather.{Got, gotNothing, wireOf, gatherTo, clearTo}
-use Rattle.tables.specs.Tables.{entryOf, withEntry, linksOf, heardOf, busyOf, withHeard, withBusy}
+use Rattle.tables.specs.Tables.{linksOf, heardOf, busyOf, withHeard, withBusy}
 use Rattle.turn.specs.declared.Carried.{Carried}
 use Rattle.turn.specs.declared.Pair.{Pair}
 

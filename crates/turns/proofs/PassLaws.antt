@@ -4,7 +4,7 @@ use Prim.Native.Nat.{ℕ, zero, suc, _-_, _%_, _^_, _<_, _≤_}
 use native.Mathlib.Omega.{arith}
 use native.Mathlib.Nat.{mod-eq-of-lt}
 use mathlib.Core.Path.{_≡_, refl, sym, ap, _∙_, subst}
-use mathlib.Core.Bool.{Bool, true, false, _&&_, _||_, and-false}
+use mathlib.Core.Bool.{true, false, _&&_, _||_, and-false}
 use mathlib.Core.List.{List}
 use lib.Dec.{eqb, ltb}
 use lib.ListN.{getD, set}
@@ -25,7 +25,7 @@ use Rattle.turn.specs.declared.Pair.{Pair}
 use Rattle.pass.specs.declared.Glance.{Glance}
 use Rattle.turn.specs.Turn.{Turn, turnOf, lessOf, keptTables, searched, nextPair, quiet, tookPair, tookDef, Took, lessBusy, moreBusy, ends, Put, nextTurn, putDef}
 use Rattle.turn.specs.Parts.{took, receiverOf, quietTo}
-use Rattle.pass.specs.Pass.{Glanced, glancePair, kept, carriedOn, glanceAt, toAfter, quietTurn, quietStore, passOne, passTo, passAll}
+use Rattle.pass.specs.Pass.{Glanced, glancePair, kept, carriedOn, glanceAt, quietTurn, quietStore, passOne, passTo, passAll}
 use Rattle.tables.proofs.Laws.{Same}
 use Rattle.turn.proofs.Laws.{pick}
 use Rattle.turn.proofs.Tables.{turn-same, took-same}

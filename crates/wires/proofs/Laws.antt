@@ -1,6 +1,6 @@
 -- What the calls on the store of waiting messages come to in lists, over its sizes: what joined, what was delivered, what was taken; that every other
 -- wire is as it was; and that the store stays formed. Assumes nothing.
-use Prim.Native.Nat.{ℕ, zero, suc, _+_, _*_, _-_, _%_, _≤_, _<_}
+use Prim.Native.Nat.{ℕ, zero, suc, _+_, _-_, _%_, _≤_, _<_}
 use native.Mathlib.Nat.{add-zero, mod-lt, mod-mod, mod-add-mod, mod-eq-of-lt}
 use native.Mathlib.Decide.{ℕ-discrete}
 use native.Mathlib.Omega.{arith}

@@ -1,9 +1,9 @@
 -- A message as one word: NOTSPT with the set s is the number s, and Neighbors(k) with the link set s is (k + 1) * 65536 + s.
 -- A set of boxes is a 16-bit number, so the two never meet. Definitions, and that reading a word gives back the message that was written.
 -- Assumes nothing.
-use Prim.Native.Nat.{ℕ, zero, suc, _+_, _*_, _/_, _%_, _<_}
+use Prim.Native.Nat.{ℕ, _+_, _*_, _/_, _%_, _<_}
 use native.Mathlib.Omega.{arith}
-use mathlib.Core.Path.{_≡_, refl, ap, ap₂}
+use mathlib.Core.Path.{_≡_, ap₂}
 use mathlib.Core.Bool.{Bool, true, false, cond}
 use lib.Dec.{leb}
 use borrow.Author.Tests.{le-leb, lt-leb}

@@ -1,5 +1,4 @@
 -- `boxes::state_with` meets its contract. Assumes nothing.
-use mathlib.Core.Path.{sym}
 use borrow.Author.Tests.{eq-eqb, ne-eqb}
 use Rattle.boxes.proofs.state_with.Statement.{statement}
 use Rattle.boxes.proofs.state_with.Tie as tie

@@ -1,7 +1,7 @@
 -- `boxes::step` meets its contract: the box after its start, after its round, and with its lists. Assumes nothing.
 use borrow.Author.Needs.{needs}
 use borrow.Author.Tests.{not-true, not-false}
-use mathlib.Core.Path.{_≡_, sym, _∙_}
+use mathlib.Core.Path.{_≡_, _∙_}
 use mathlib.Core.Logic.{⊎-elim}
 use Rattle.boxes.specs.Record.{boxOf, recordOf}
 use Rattle.boxes.specs.Step.{woken, settled, stepDef}

@@ -3,9 +3,6 @@ use borrow.Author.Needs.{needs}
 use Rattle.rules.specs.Calls.{Ran}
 use Rattle.derowlas_c.proofs.derowlas_run.Statement.{statement}
 use Rattle.derowlas_c.proofs.derowlas_run.Tie as tie
-use Rattle.derowlas_c.proofs.derowlas_run.Reads as reads
-use Rattle.derowlas_c.proofs.derowlas_run.Lts as lts
-use Rattle.hub.proofs.run.Reads as run-reads
 
 run-requires : tie.Need-run-requires
 run-requires c κs = search needs

@@ -2,11 +2,6 @@ use Rattle.hub.proofs.HubLaws.{board-short, own-full, own-less, own-don
 use borrow.Author.Needs.{needs}
 use Rattle.hub.proofs.do_all.Statement.{statement}
 use Rattle.hub.proofs.do_all.Tie as tie
-use Rattle.hub.proofs.do_all.Reads as reads
-use Rattle.hub.proofs.do_all.Lts as lts
-use Rattle.board.proofs.put_board.Reads as put-board-reads
-use Rattle.hub.proofs.refused.Reads as refused-reads
-use Rattle.turns.proofs.run_own.Reads as run-own-reads
 
 mul-if1 : tie.Need-mul-if1
 mul-if1 c = search needs

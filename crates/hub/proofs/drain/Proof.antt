@@ -11,13 +11,6 @@ use Rattle.hub.proofs.CallLaws.{drain-sheet, drain-starts, drain-does, 
 use borrow.Author.Needs.{needs}
 use Rattle.hub.proofs.drain.Statement.{statement}
 use Rattle.hub.proofs.drain.Tie as tie
-use Rattle.hub.proofs.drain.Reads as reads
-use Rattle.hub.proofs.drain.Lts as lts
-use Rattle.hub.proofs.do_all.Reads as do-all-reads
-use Rattle.lists.proofs.past_boxes.Reads as past-boxes-reads
-use Rattle.hub.proofs.refused.Reads as refused-reads
-use Rattle.lists.proofs.start_list.Reads as start-list-reads
-use Rattle.sheet.proofs.parse.Reads as parse-reads
 
 parse-requires : tie.Need-parse-requires
 parse-requires c κs = search needs

@@ -4,12 +4,6 @@ use Rattle.hub.proofs.CallLaws.{run-sheet, run-list, run-does, table-is
 use borrow.Author.Needs.{needs}
 use Rattle.hub.proofs.run.Statement.{statement}
 use Rattle.hub.proofs.run.Tie as tie
-use Rattle.hub.proofs.run.Reads as reads
-use Rattle.hub.proofs.run.Lts as lts
-use Rattle.hub.proofs.do_all.Reads as do-all-reads
-use Rattle.lists.proofs.list_number.Reads as list-number-reads
-use Rattle.hub.proofs.refused.Reads as refused-reads
-use Rattle.sheet.proofs.parse.Reads as parse-reads
 
 parse-requires : tie.Need-parse-requires
 parse-requires c κs = search needs

@@ -5,9 +5,6 @@ use Rattle.lists.proofs.ListLaws.{starts-yes, starts-no}
 use borrow.Author.Needs.{needs}
 use Rattle.lists.proofs.add_start.Statement.{statement}
 use Rattle.lists.proofs.add_start.Tie as tie
-use Rattle.lists.proofs.add_start.Reads as reads
-use Rattle.lists.proofs.add_start.Lts as lts
-use Rattle.sets.proofs.is_in.Reads as is-in-reads
 
 is-in-requires : tie.Need-is-in-requires
 is-in-requires c κs = search needs

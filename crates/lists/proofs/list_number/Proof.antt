@@ -1,4 +1,4 @@
-use Prim.Native.Nat.{_+_, _-_, _%_, _≤_, _<_}
+use Prim.Native.Nat.{_-_, _%_, _≤_}
 use mathlib.Core.Path.{_≡_, sym, _∙_, ap₂, refl}
 use mathlib.Core.Logic.{_≢_}
 use native.Mathlib.Omega.{arith}
@@ -8,10 +8,6 @@ use Rattle.lists.specs.Checks.{pairsNumber, pairNumber}
 use Rattle.lists.proofs.ListLaws.{pairs-end, pairs-more, pairs-refused, odd-list, long-list, fair-list}
 use Rattle.lists.proofs.list_number.Statement.{statement}
 use Rattle.lists.proofs.list_number.Tie as tie
-use Rattle.lists.proofs.list_number.Reads as reads
-use Rattle.lists.proofs.list_number.Lts as lts
-use Rattle.lists.proofs.pair_number.Reads as pair-number-reads
-use Rattle.sheet.proofs.byte_at.Reads as byte-at-reads
 
 abbrev Inv-loop : tie.InvT-loop
 Inv-loop list n table end i₀ i = (i ≤ length list) × (end ≡ length list) × (length list % 2 ≢ 1) × (i % 2 ≡ 0) × (length list ≤ 60000) × (pairsNumber n table (drop i list) ≡ pairsNumber n table list)

@@ -3,9 +3,6 @@ use Rattle.lists.proofs.ListLaws.{high-first, high-second, a-start, a-l
 use borrow.Author.Needs.{needs}
 use Rattle.lists.proofs.pair_number.Statement.{statement}
 use Rattle.lists.proofs.pair_number.Tie as tie
-use Rattle.lists.proofs.pair_number.Reads as reads
-use Rattle.lists.proofs.pair_number.Lts as lts
-use Rattle.sets.proofs.is_in.Reads as is-in-reads
 
 returns : tie.Need-returns
 returns c = high-first _ _ _ _ (search needs)

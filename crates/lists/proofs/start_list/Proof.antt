@@ -1,4 +1,4 @@
-use Prim.Native.Nat.{ℕ, _+_, _-_, _*_, _≤_}
+use Prim.Native.Nat.{ℕ, _-_, _*_, _≤_}
 use mathlib.Core.Path.{_≡_, sym, _∙_, ap}
 use native.Mathlib.Omega.{arith}
 use native.Mathlib.Numerals.{add-one}
@@ -8,9 +8,6 @@ use Rattle.lists.specs.Checks.{startPairs}
 use Rattle.lists.proofs.ListLaws.{starts-none, starts-more}
 use Rattle.lists.proofs.start_list.Statement.{statement}
 use Rattle.lists.proofs.start_list.Tie as tie
-use Rattle.lists.proofs.start_list.Reads as reads
-use Rattle.lists.proofs.start_list.Lts as lts
-use Rattle.lists.proofs.add_start.Reads as add-start-reads
 
 abbrev Inv-loop : tie.InvT-loop
 Inv-loop starts q₀ i₀ q i = (i ≤ 16) × (q .len ≤ 2 * i) × (take (q .len) (q .pairs) ≡ startPairs i starts)

@@ -1,7 +1,6 @@
 -- `sets::only` meets its contract: the power fits, since the box is below 16. Assumes nothing.
 use borrow.Author.Needs.{needs}
 use Prim.Native.Nat.{_^_, _<_}
-use native.Mathlib.Omega.{arith}
 use native.Mathlib.Nat.{one-mul, mod-eq-of-lt}
 use lib.Pow.{pow-lt}
 use Rattle.sets.proofs.only.Statement.{statement}
