@@ -2,7 +2,6 @@
 -- Assumes nothing.
 use Prim.Native.Nat.{ℕ, zero, suc, _%_, _^_, _<_, min}
 use native.Mathlib.Omega.{arith}
-use native.Mathlib.Nat.{mod-eq-of-lt}
 use mathlib.Core.Path.{_≡_, refl, ap, _∙_}
 use mathlib.Core.Bool.{Bool, true, false, cond}
 use mathlib.Core.List.{List, [], _∷_, _++_, map}
@@ -43,10 +42,7 @@ pub step-still : (r : Record) (a : Arrival) → a .round ≡ false → stepDef r
 unfolding stepDef
 step-still r a e = worked-still a (woken r a) e
 
--- ---- the two cuts
-
-pub started-own : (i n : ℕ) → i < 16 → started 16 (i % 16) n ≡ started 16 i n
-started-own i n l = ap (λ (k : ℕ). started 16 k n) (mod-eq-of-lt l)
+-- ---- the cut of HOP
 
 pub hopped-next : (b : Box) → b .hop < 65535 → hopped b ≡ nextHop b
 unfolding hopped nextHop
@@ -57,10 +53,6 @@ hopped-next b l = let e : min (suc (b .hop)) 65535 ≡ suc (b .hop) = omega arit
 pub saved-stopped : (a : Arrival) (b : Box) → isStopped b ≡ true → saved a b ≡ b
 unfolding saved
 saved-stopped a b e = rw e
-
-pub saved-awake : (a : Arrival) (b : Box) → isStopped b ≡ false → saved a b .neighbors ≡ saveAll (b .neighbors) (a .listed) (a .lists)
-unfolding saved
-saved-awake a b e = rw e
 
 pub saved-none : (a : Arrival) (b : Box) → a .listed ≡ 0 → saved a b ≡ b
 unfolding saved saveAll
@@ -139,11 +131,6 @@ pub started-stops : (i n : ℕ) → isStopped (started 16 i n) ≡ eqb n 0
 unfolding started
 started-stops i n = stopped-next (eqb n 0)
 
--- a start alone
-pub start-record : (r : Record) (a : Arrival) → a .wakes ≡ true → a .round ≡ false → a .listed ≡ 0 → a .own < 16
-    → stepDef r a .«record» ≡ recordOf (started 16 (a .own) (a .links))
-start-record r a w e n l = still-record r a e ∙ ap recordOf (saved-none a (woken r a) n ∙ woken-yes r a w ∙ started-own (a .own) (a .links) l)
-
 -- ---- what taking the sets keeps
 
 keeps : {B : Type 0} (g : Box → B) (w n : ℕ) (heads : ℕ → ℕ) (b : Box) → ((j s : ℕ) (c : Box) → g (takeSet w j s c) ≡ g c)
@@ -162,10 +149,6 @@ module _ (w n : ℕ) (heads : ℕ → ℕ) (b : Box) where
   pub taken-hop : takeSets w n heads b .hop ≡ b .hop
   unfolding takeSets takeSet
   taken-hop = keeps (λ c. c .hop) w n heads b (λ j s c. refl) w
-
-  pub taken-state : takeSets w n heads b .state ≡ b .state
-  unfolding takeSets takeSet
-  taken-state = keeps (λ c. c .state) w n heads b (λ j s c. refl) w
 
   pub taken-neighbors : takeSets w n heads b .neighbors ≡ b .neighbors
   unfolding takeSets takeSet

@@ -5,10 +5,10 @@ use native.Mathlib.Decide.{decLt}
 use mathlib.Core.Path.{_≡_, refl}
 use mathlib.Core.Bool.{Bool, true, false, cond}
 use mathlib.Core.List.{List}
-use lib.Bits.{bitOr, or-step, or-zero-l, or-zero-r, or-comm, and-zero-l}
+use lib.Bits.{bitOr, or-step, or-zero-l, or-zero-r, or-comm}
 use lib.ListN.{length, set, take}
 use lib.Seq.{set-out, set-set, set-getD, getD-set-same, getD-set-other, take-suc-set}
-use Rattle.rules.specs.Sets.{mem, without, word, union, joinAt, each, words, forEach}
+use Rattle.rules.specs.Sets.{mem, word, union, joinAt, each, words, forEach}
 use Rattle.rules.specs.Box.{before}
 use Rattle.sets.specs.Mem.{mem-empty}
 use Rattle.sets.specs.Tables.{joinAt-same, joinAt-other}
@@ -35,10 +35,6 @@ pub or-assoc : (a b c : ℕ) → bitOr (bitOr a b) c ≡ bitOr a (bitOr b c)
 or-assoc a b c = or-assoc-to (a + b + c) a b c (omega arith)
 
 -- ---- the empty set
-
-pub without-none : (s : ℕ) → without 0 s ≡ 0
-unfolding without
-without-none s = rw (and-zero-l s)
 
 -- a set joins no entry past the end, and the empty set changes no entry
 pub join-none : (t : List ℕ) (k : ℕ) → joinAt t k 0 ≡ t

@@ -1,10 +1,10 @@
 // One box of the hub: its record, its start, a round, the lists it saves. Document 01, "The steps of a box". A box sees its own number and link set,
 // its record, and what has come for it; the wires are another crate's.
 ghost use mathlib.Core.Path.{_≡_};
-ghost use Prim.Native.Nat.{ℕ, suc, _+_, _%_, _^_, _<_};
+ghost use Prim.Native.Nat.{_+_, _%_, _<_};
 ghost use mathlib.Core.Bool.{cond};
 ghost use lib.Dec.{eqb};
-ghost use Rattle.rules.specs.Sets.{mem, without, word, union};
+ghost use Rattle.rules.specs.Sets.{mem, word, union};
 ghost use Rattle.rules.specs.Box.{asleep, started, takeSets, before};
 ghost use Rattle.boxes.specs.Record.{boxOf, recordOf};
 ghost use Rattle.boxes.specs.Step.{hopped, withoutEach, saveAll, setsOf, originsOf, stepDef};

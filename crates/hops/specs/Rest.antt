@@ -8,11 +8,11 @@ use native.Mathlib.Omega.{arith}
 use native.Mathlib.Decide.{decLe}
 use lib.Dec.{eqb}
 use lib.Pow.{pow-pos}
+use borrow.Author.Tests.{eqb-true, eq-eqb, eqb-false}
 use Rattle.rules.specs.Sets.{mem, word, words, setOf}
 use Rattle.rules.specs.Rest.{Table, hops, layer, farthest, from, inAtRest, atRest}
 use Rattle.sets.specs.Mem.{mem-setOf, setOf-lt, in-lt, ext, mem-empty, and-both, and-true}
 use Rattle.sets.specs.Loops.{by-bool, least-hit, least-ok, least-min, some-member, getD-words}
-use Rattle.sets.specs.Tables.{eqb-eq, eq-eqb, eqb-ne}
 use Rattle.hops.specs.Hops.{hops-le, hops-gap, hops-self, hops-zero, hops-near, hops-between}
 
 -- ---- layers
@@ -20,7 +20,7 @@ use Rattle.hops.specs.Hops.{hops-le, hops-gap, hops-self, hops-zero, hop
 pub in-layer : (w : ℕ) (t : List ℕ) (i d k : ℕ) → mem k (layer w t i d) ≡ true → hops w t i k ≡ d
 unfolding layer
 in-layer w t i d k m =
-    eqb-eq (hops w t i k) d (sym (mem-setOf w (λ k. eqb (hops w t i k) d) k (in-lt w (layer w t i d) k (setOf-lt w (λ k. eqb (hops w t i k) d)) m)) ∙ m)
+    eqb-true (hops w t i k) d (sym (mem-setOf w (λ k. eqb (hops w t i k) d) k (in-lt w (layer w t i d) k (setOf-lt w (λ k. eqb (hops w t i k) d)) m)) ∙ m)
 
 pub layer-in : (w : ℕ) (t : List ℕ) (i d k : ℕ) → k < w → hops w t i k ≡ d → mem k (layer w t i d) ≡ true
 unfolding layer
@@ -56,7 +56,7 @@ from-ok w t i k h =
     let (a, b) = and-both (mem (from w t i k) (word t i)) (eqb (suc (hops w t (from w t i k) k)) (hops w t i k)) (least-ok w (nearer w t i k) h) in
     record {
       linked = a;
-      near = eqb-eq _ _ b;
+      near = eqb-true _ _ b;
       lowest = λ l q u v. true≢false (sym (and-true _ _ u (eq-eqb (suc (hops w t l k)) (hops w t i k) v)) ∙ least-min w (nearer w t i k) l q);
     }
 
@@ -86,7 +86,7 @@ module _ (w : ℕ) (t : List ℕ) (s : Table w t) where
   in-tables i j k hj hk =
       let e : word (words w (inAtRest w t i)) j ≡ setOf w (λ k. eqb (from w t i k) j) = getD-words w (inAtRest w t i) j hj in
       let m : mem k (setOf w (λ k. eqb (from w t i k) j)) ≡ eqb (from w t i k) j = mem-setOf w (λ k. eqb (from w t i k) j) k hk in
-      (λ h. eqb-eq (from w t i k) j (sym m ∙ sym (ap (mem k) e) ∙ h), λ h. ap (mem k) e ∙ m ∙ eq-eqb (from w t i k) j h)
+      (λ h. eqb-true (from w t i k) j (sym m ∙ sym (ap (mem k) e) ∙ h), λ h. ap (mem k) e ∙ m ∙ eq-eqb (from w t i k) j h)
 
   -- ---- the farthest member
 
@@ -106,7 +106,7 @@ module _ (w : ℕ) (t : List ℕ) (s : Table w t) where
           | yes p ↦ p
           | no p ↦
               let (c, hc, e) = hops-between w t s (suc (farthest w t i)) (hops w t i k - suc (farthest w t i)) i k hi (omega arith) (omega arith) in
-              absurd (none-layer w t i (suc (farthest w t i)) c (eqb-eq _ 0 (least-ok w (λ d. eqb (layer w t i (suc d)) 0) far-lt)) hc e)
+              absurd (none-layer w t i (suc (farthest w t i)) c (eqb-true _ 0 (least-ok w (λ d. eqb (layer w t i (suc d)) 0) far-lt)) hc e)
         ]
 
     pub far-past : (d : ℕ) → farthest w t i < d → d < w + 2 → layer w t i d ≡ 0
@@ -121,5 +121,5 @@ module _ (w : ℕ) (t : List ℕ) (s : Table w t) where
         go zero e = (i, hi, hops-self w t s i hi ∙ sym e)
         go (suc d) e =
             let z : eqb (layer w t i (suc d)) 0 ≡ false = least-min w (λ d. eqb (layer w t i (suc d)) 0) d (omega arith) in
-            let (c, hc, m) = some-member w (layer w t i (suc d)) (layer-lt w t i (suc d)) (eqb-ne _ 0 z) in
+            let (c, hc, m) = some-member w (layer w t i (suc d)) (layer-lt w t i (suc d)) (eqb-false _ 0 z) in
             (c, hc, in-layer w t i (suc d) c m ∙ sym e)

@@ -8,9 +8,8 @@ use native.Mathlib.Omega.{arith}
 use lib.Dec.{eqb}
 use lib.ListN.{length, getD, drop, take, set, length-drop, length-set}
 use lib.Seq.{drop-cons, take-suc-set}
-use borrow.Author.Tests.{le-leb, lt-leb, le-ltb, lt-ltb}
+use borrow.Author.Tests.{le-leb, lt-leb, le-ltb, lt-ltb, eq-eqb, ne-eqb}
 use Rattle.rules.specs.Sets.{mem, word, each}
-use Rattle.sets.specs.Tables.{eq-eqb, ne-eqb}
 use Rattle.lists.specs.Checks.{pairNumber, pairsNumber, listNumber, startPairs}
 
 -- ---- one pair

@@ -7,13 +7,12 @@ use mathlib.Core.Logic.{_⊎_, inl, inr, ⊎-elim, _≢_}
 use native.Mathlib.Omega.{arith}
 use lib.Dec.{eqb, ltb, leb}
 use lib.ListN.{length, length-append}
-use borrow.Author.Tests.{leb-false, ltb-false}
+use borrow.Author.Tests.{leb-false, ltb-false, eqb-true, eq-eqb, ne-eqb, eqb-false}
 use Rattle.rules.specs.Sets.{mem, word, each, forEach}
 use Rattle.rules.specs.Outcome.{Outcome, refused, refuse}
 use Rattle.rules.specs.Hub.{Hub, start, act, run}
 use Rattle.rules.specs.Calls.{checkPairs, longestList}
 use Rattle.sets.specs.Loops.{by-bool}
-use Rattle.sets.specs.Tables.{eqb-eq, eq-eqb, ne-eqb, eqb-ne}
 use Rattle.order.specs.Terms.{Names}
 use Rattle.lists.specs.Checks.{pairNumber, pairsNumber, listNumber, startPairs}
 
@@ -26,7 +25,7 @@ pair-cases n t a b e =
     (λ u. absurd (ten (rw u at e)))
     (λ u. by-bool (leb n b)
     (λ v. absurd (ten (rw (u, v) at e)))
-    (λ v. (leb-false n a u, leb-false n b v, by-bool (eqb a b) (λ w. inl (eqb-eq a b w)) (λ w. by-bool (mem b (word t a)) (λ y. inr y) (λ y. absurd (eleven (rw (u, v, w, y) at e)))))))
+    (λ v. (leb-false n a u, leb-false n b v, by-bool (eqb a b) (λ w. inl (eqb-true a b w)) (λ w. by-bool (mem b (word t a)) (λ y. inr y) (λ y. absurd (eleven (rw (u, v, w, y) at e)))))))
   where
     ten : _≡_ {A = ℕ} 10 0 → ⊥
     ten x = omega arith
@@ -45,9 +44,9 @@ pairs-name n w t (a ∷ []) h e = tt
 pairs-name n w t (a ∷ b ∷ l) h e =
     by-bool (eqb (pairNumber n t a b) 0)
     (λ z.
-    let (x, y, v) = pair-cases n t a b (eqb-eq _ 0 z) in
+    let (x, y, v) = pair-cases n t a b (eqb-true _ 0 z) in
     ((omega arith, omega arith), v, pairs-name n w t l h (sym (pairs-cons n t a b l ∙ ap (λ (c : Bool). cond c (pairsNumber n t l) (pairNumber n t a b)) z) ∙ e)))
-    (λ z. absurd (eqb-ne _ 0 z (sym (pairs-cons n t a b l ∙ ap (λ (c : Bool). cond c (pairsNumber n t l) (pairNumber n t a b)) z) ∙ e)))
+    (λ z. absurd (eqb-false _ 0 z (sym (pairs-cons n t a b l ∙ ap (λ (c : Bool). cond c (pairsNumber n t l) (pairNumber n t a b)) z) ∙ e)))
 
 -- one pair in the rules' words
 check-pair : {A : Type 0} (n : ℕ) (t : List ℕ) (i a b : ℕ) (o : Outcome A)

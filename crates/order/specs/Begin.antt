@@ -9,11 +9,11 @@ use native.Mathlib.Decide.{decLt, ℕ-discrete}
 use lib.Dec.{eqb}
 use lib.ListN.{length, set, replicate, length-set, length-replicate, getD-replicate, List·getD-eq-default}
 use lib.Seq.{getD-set-same, getD-set-other}
+use borrow.Author.Tests.{eqb-true, eq-eqb, eqb-false}
 use Rattle.rules.specs.Sets.{mem, word}
 use Rattle.rules.specs.Box.{Msg, neighbors, Box, Desk, started, startSends}
 use Rattle.rules.specs.Rest.{Table, hops}
 use Rattle.sets.specs.Loops.{by-bool, some-member}
-use Rattle.sets.specs.Tables.{eqb-eq, eq-eqb, eqb-ne}
 use Rattle.hops.specs.Hops.{hops-self, hops-zero, hops-near}
 use Rattle.order.specs.Rounds.{heardTo, layer-first, in-first, no-link}
 use Rattle.order.specs.Messages.{no-sets}
@@ -113,8 +113,8 @@ module _ (w : ℕ) (t : List ℕ) (s : Table w t) (j : ℕ) (hj : j < w) (n : �
   unfolding started
   first-seat =
       by-bool (eqb (word t j) 0)
-      (λ e. rw e (rests (first-stopped (eqb-eq (word t j) 0 e))))
-      (λ e. rw e (wakes (first-awake (eqb-ne (word t j) 0 e))))
+      (λ e. rw e (rests (first-stopped (eqb-true (word t j) 0 e))))
+      (λ e. rw e (wakes (first-awake (eqb-false (word t j) 0 e))))
 
   pub begins : (b : Box) → b .state ≡ 0 → Done w t j n past rest b first
   unfolding startSends

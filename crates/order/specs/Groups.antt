@@ -5,13 +5,12 @@ use mathlib.Core.Bool.{Bool, true, _&&_, cond}
 use mathlib.Core.List.{List}
 use mathlib.Core.Logic.{_↔_}
 use native.Mathlib.Omega.{arith}
-use borrow.Author.Tests.{lt-ltb, ltb-true, le-ltb}
+use borrow.Author.Tests.{lt-ltb, ltb-true, le-ltb, eqb-true, eq-eqb, ne-eqb}
 use lib.Dec.{eqb, ltb}
 use Rattle.rules.specs.Sets.{mem, word, least, count, sum}
 use Rattle.rules.specs.Rest.{Table, Walk, hops, together, farthest, reached, isFirst}
 use Rattle.sets.specs.Mem.{in-lt, and-both, and-true, bool-ext}
 use Rattle.sets.specs.Loops.{by-bool, least-hit, least-same, any-in, any-out, count-le, count-more, sum-same, sum-none}
-use Rattle.sets.specs.Tables.{eqb-eq, eq-eqb, ne-eqb}
 use Rattle.hops.specs.Hops.{hops-least, hops-gap, hops-self, hops-zero, hops-sym, hops-step, hops-near, hops-between}
 use Rattle.hops.specs.Rest.{far-lt, far-there}
 use Rattle.order.specs.Rounds.{link-lt}
@@ -69,7 +68,7 @@ module _ (w : ℕ) (t : List ℕ) (s : Table w t) where
 
   is-first : (i j : ℕ) → i < w → j < w → isFirst w t i ≡ true → together w t i j ≡ true → i ≡ first j
   unfolding isFirst
-  is-first i j hi hj e u = sym (eqb-eq (first i) i e) ∙ first-same i j hi hj u
+  is-first i j hi hj e u = sym (eqb-true (first i) i e) ∙ first-same i j hi hj u
 
   -- what is the same for all boxes of a group, summed over boxes, is the sum over groups of n times as much
   pub sum-groups : (f : ℕ → ℕ) → ((i j : ℕ) → i < w → j < w → together w t i j ≡ true → f i ≡ f j)
@@ -85,7 +84,7 @@ module _ (w : ℕ) (t : List ℕ) (s : Table w t) where
           let z : sum w (λ i. cond (isFirst w t i && together w t i j) (f j) 0) ≡ sum w (λ i. cond (eqb i (first j)) (f j) 0) =
           sum-same w _ _ (λ i hi. ap (λ (x : Bool). cond x (f j) 0) (bool-ext _ _
           (λ u. let (p, q) = and-both _ _ u in eq-eqb i (first j) (is-first i j hi hj p q))
-          (λ u. rw (eqb-eq i (first j) u) (and-true _ _ a b)))) in
+          (λ u. rw (eqb-true i (first j) u) (and-true _ _ a b)))) in
           z ∙ sum-one w (λ i. cond (eqb i (first j)) (f j) 0) (first j) (first-lt j hj .0) (λ i y. rw (ne-eqb i (first j) y)) ∙ rw (eq-eqb (first j) (first j) refl)
 
       group : (i : ℕ) → i < w → sum w (λ j. cond (isFirst w t i && together w t i j) (f j) 0) ≡ cond (isFirst w t i) (count w (together w t i) * f i) 0

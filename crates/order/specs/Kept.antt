@@ -9,12 +9,13 @@ use native.Mathlib.Omega.{arith}
 use native.Mathlib.Decide.{ℕ-discrete}
 use lib.Dec.{eqb, ltb}
 use lib.ListN.{length}
+use borrow.Author.Tests.{eqb-true, eq-eqb}
 use Rattle.rules.specs.Sets.{mem, word, upd}
 use Rattle.rules.specs.Box.{Msg, Box, Desk, started, save, stops, nextHop, round, allSets, work, receive}
 use Rattle.rules.specs.Hub.{Hub, send, sendList, sendAll, settle, start, popped, handOver, deliver, act, run, drain, startAll, queuesOf, sender, receiver}
 use Rattle.sets.specs.Mem.{and-both, or-cases}
 use Rattle.sets.specs.Loops.{by-bool, forEach-keeps}
-use Rattle.sets.specs.Tables.{eqb-eq, eq-eqb, upd-same, upd-other}
+use Rattle.sets.specs.Tables.{upd-same, upd-other}
 use Rattle.order.specs.Terms.{asks}
 use Rattle.order.specs.Work.{two-or-one}
 use Rattle.order.specs.Begin.{started-up}
@@ -134,7 +135,7 @@ module _ (w room : ℕ) (t : List ℕ) where
       ⊎-elim
       (λ u.
       let (x, y) = and-both (eqb a b) (eqb a k) u in
-      run-keeps l (act w room t a b h) k (rw (x, eqb-eq a k y) (start-wakes k h)))
+      run-keeps l (act w room t a b h) k (rw (x, eqb-true a k y) (start-wakes k h)))
       (λ u. asked-up l (act w room t a b h) k u)
       (or-cases (eqb a b && eqb a k) (asks k l) e)
 

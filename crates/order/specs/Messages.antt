@@ -7,11 +7,11 @@ use mathlib.Core.Logic.{_⊎_, inl, inr, ⊎-elim}
 use native.Mathlib.Omega.{arith}
 use native.Mathlib.Decide.{ℕ-discrete}
 use lib.Dec.{eqb}
+use borrow.Author.Tests.{eq-eqb, ne-eqb}
 use Rattle.rules.specs.Sets.{mem, bit, each, members}
 use Rattle.rules.specs.Box.{Msg, notspt, neighbors}
 use Rattle.sets.specs.Mem.{mem-empty}
 use Rattle.sets.specs.Loops.{by-bool}
-use Rattle.sets.specs.Tables.{eq-eqb, ne-eqb}
 use Rattle.order.specs.Terms.{tally}
 use Rattle.order.specs.Rounds.{lt-suc}
 

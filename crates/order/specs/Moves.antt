@@ -8,12 +8,13 @@ use native.Mathlib.Omega.{arith}
 use native.Mathlib.Decide.{ℕ-discrete}
 use lib.Dec.{eqb}
 use lib.ListN.{length}
+use borrow.Author.Tests.{eq-eqb, ne-eqb}
 use Rattle.rules.specs.Sets.{mem, word, sum}
 use Rattle.rules.specs.Box.{Msg, Box, Desk, started, startSends, receive}
 use Rattle.rules.specs.Hub.{Hub, Wire, settle, start, popped, handOver, deliver, queuesOf, underWay}
 use Rattle.rules.specs.Rest.{Table}
 use Rattle.sets.specs.Loops.{by-bool, sum-same}
-use Rattle.sets.specs.Tables.{eq-eqb, ne-eqb, upd-same, upd-other}
+use Rattle.sets.specs.Tables.{upd-same, upd-other}
 use Rattle.order.specs.Rounds.{link-lt, links-lt, link-ne}
 use Rattle.order.specs.Sums.{sum-more}
 use Rattle.order.specs.Wire.{wire}

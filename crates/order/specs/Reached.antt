@@ -5,7 +5,7 @@ use mathlib.Core.Bool.{Bool, true, false, not, _&&_, _||_, true≢false}
 use mathlib.Core.List.{List, [], _∷_}
 use mathlib.Core.Logic.{_⊎_, inl, inr, ⊎-elim}
 use native.Mathlib.Omega.{arith}
-use borrow.Author.Tests.{leb-false}
+use borrow.Author.Tests.{leb-false, eqb-true}
 use lib.Dec.{eqb, leb, ltb}
 use Rattle.rules.specs.Sets.{mem, word}
 use Rattle.rules.specs.Outcome.{Outcome, accepted, refuse}
@@ -14,7 +14,6 @@ use Rattle.rules.specs.Calls.{checkPairs}
 use Rattle.rules.specs.Rest.{Table}
 use Rattle.sets.specs.Mem.{or-neither}
 use Rattle.sets.specs.Loops.{by-bool, forEach-keeps, sum-same, sum-none}
-use Rattle.sets.specs.Tables.{eqb-eq}
 use Rattle.order.specs.Terms.{Reached, begin, starts, delivers, Names}
 use Rattle.order.specs.Wire.{wire-none}
 use Rattle.order.specs.Invariant.{sleeps, spoken, Sound}
@@ -42,7 +41,7 @@ checked-names w n t i (a ∷ b ∷ l) o x h e =
     let (q, e2) = passes (not (eqb a b) && not (mem b (word t a))) 11 i _ x e1 in
     let (u, v) = or-neither (leb n a) (leb n b) p in
     let (r, e3) = checked-names w n t (suc i) l o x h e2 in
-    (((omega (arith, leb-false n a u), omega (arith, leb-false n b v)), ⊎-elim (λ z. inl (eqb-eq a b z)) (λ z. inr z) (and-none (eqb a b) (mem b (word t a)) q), r), e3)
+    (((omega (arith, leb-false n a u), omega (arith, leb-false n b v)), ⊎-elim (λ z. inl (eqb-true a b z)) (λ z. inr z) (and-none (eqb a b) (mem b (word t a)) q), r), e3)
 
 -- ---- lists, sets of starts and the drain lead only to such hubs
 

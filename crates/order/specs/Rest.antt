@@ -6,7 +6,7 @@ use mathlib.Core.List.{List}
 use mathlib.Core.Logic.{_⊎_, inl, inr, _≢_, _↔_}
 use native.Mathlib.Omega.{arith}
 use native.Mathlib.Decide.{decLe, ℕ-discrete}
-use borrow.Author.Tests.{lt-ltb, ltb-true}
+use borrow.Author.Tests.{lt-ltb, ltb-true, ne-eqb}
 use lib.Dec.{eqb}
 use lib.ListN.{length}
 use lib.Seq.{ext-getD}
@@ -16,7 +16,6 @@ use Rattle.rules.specs.Hub.{Hub}
 use Rattle.rules.specs.Rest.{Table, hops, together, layer, farthest, from, inAtRest, notAtRest, atRest}
 use Rattle.sets.specs.Mem.{same}
 use Rattle.sets.specs.Loops.{by-bool, length-words, getD-words}
-use Rattle.sets.specs.Tables.{ne-eqb}
 use Rattle.hops.specs.Hops.{hops-gap, hops-step, hops-near}
 use Rattle.hops.specs.Rest.{in-layer, layer-in, layer-none, far-lt, far-most}
 use Rattle.order.specs.Rounds.{in-rest-is, not-rest-is, not-rest-off, heard-last, inCut-is, heard-is, heardTo, taken-group, no-link, not-from, zero-is}

@@ -7,11 +7,11 @@ use mathlib.Core.Logic.{⊎-elim}
 use native.Mathlib.Omega.{arith}
 use native.Mathlib.Decide.{decLt, ℕ-discrete}
 use lib.ListN.{length}
+use borrow.Author.Tests.{eqb-true, ne-eqb, eqb-false}
 use Rattle.rules.specs.Sets.{mem, without, word, members, all}
 use Rattle.rules.specs.Box.{Msg, notspt, neighbors, Box, Desk, isSet, headSet, tail, allSets, takeSets, before, roundSends, stops, nextHop, round}
 use Rattle.rules.specs.Rest.{Table, hops, layer, from, saidSet}
 use Rattle.sets.specs.Loops.{some-member, all-out, all-not}
-use Rattle.sets.specs.Tables.{eqb-eq, ne-eqb, eqb-ne}
 use Rattle.hops.specs.Hops.{hops-gap, hops-between}
 use Rattle.hops.specs.Rest.{in-layer, layer-lt, none-layer, from-ok, from-member, far-lt, far-most, far-there}
 use Rattle.order.specs.Rounds.{inCut, heardTo, said-next, cur-none, cur-all, link-lt}
@@ -199,7 +199,7 @@ module _ (w : ℕ) (t : List ℕ) (s : Table w t) (j : ℕ) (hj : j < w) (n : �
       → Half w t j n (used past (turned w (word t j) d false)) ((turned w (word t j) d false) .queues) rest ((turned w (word t j) d false) .box)
   unfolding stops
   goes-on e =
-      let (k, hk, m) = some-member w (layer w t j (d .box .hop)) (layer-lt w t j (d .box .hop)) (λ u. eqb-ne _ 0 e (nodes-now ∙ u)) in
+      let (k, hk, m) = some-member w (layer w t j (d .box .hop)) (layer-lt w t j (d .box .hop)) (λ u. eqb-false _ 0 e (nodes-now ∙ u)) in
       let y : hops w t j k ≡ d .box .hop = in-layer w t j (d .box .hop) k m in
       record {
         state = refl;
@@ -218,7 +218,7 @@ module _ (w : ℕ) (t : List ℕ) (s : Table w t) (j : ℕ) (hj : j < w) (n : �
         | yes u ↦ u
         | no u ↦
             let (c, hc, z) = hops-between w t s (d .box .hop) (hops w t j k - d .box .hop) j k hj (omega arith) (omega arith) in
-            absurd (none-layer w t j (d .box .hop) c (sym nodes-now ∙ eqb-eq _ 0 e) hc z)
+            absurd (none-layer w t j (d .box .hop) c (sym nodes-now ∙ eqb-true _ 0 e) hc z)
       ]
 
   pub comes-to-rest : stops (withSets w (word t j) d) ≡ true

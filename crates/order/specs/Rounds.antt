@@ -6,7 +6,7 @@ use mathlib.Core.Logic.{_⊎_, inl, inr, ⊎-elim, _≢_, Dec·and, Dec·not}
 use mathlib.Core.List.{List}
 use native.Mathlib.Omega.{arith}
 use native.Mathlib.Decide.{decLe, decLt, ℕ-discrete}
-use borrow.Author.Tests.{not-true}
+use borrow.Author.Tests.{not-true, eqb-true, eq-eqb, ne-eqb, eqb-false}
 use lib.Bits.{bitOr}
 use lib.Dec.{eqb}
 use lib.Pow.{pow-pos, pow-lt}
@@ -14,7 +14,6 @@ use Rattle.rules.specs.Sets.{mem, without, setOf, word}
 use Rattle.rules.specs.Rest.{Table, hops, together, layer, from, inAtRest, notAtRest, saidSet}
 use Rattle.sets.specs.Mem.{mem-setOf, setOf-lt, Is, sel, sel-is, same, or-is, without-is, and-both, and-true, not-both, in-lt, mem-empty, in-one, one-in}
 use Rattle.sets.specs.Loops.{by-bool}
-use Rattle.sets.specs.Tables.{eqb-eq, eq-eqb, ne-eqb, eqb-ne}
 use Rattle.hops.specs.Hops.{hops-gap, hops-self, hops-zero, hops-step}
 use Rattle.hops.specs.Rest.{in-layer, layer-in, layer-lt, from-ok, from-le, from-member, from-group}
 
@@ -53,7 +52,7 @@ module _ (w : ℕ) (t : List ℕ) where
   unfolding saidSet
   said-is i j r =
       setOf-is w (λ k. eqb (hops w t i k) r && not (eqb (from w t i k) j)) (λ k. (hops w t i k ≡ r) × (¬ (from w t i k ≡ j)))
-      (λ k e. let (a, b) = and-both _ _ e in (eqb-eq _ _ a, eqb-ne _ _ (not-true _ b)))
+      (λ k e. let (a, b) = and-both _ _ e in (eqb-true _ _ a, eqb-false _ _ (not-true _ b)))
       (λ k p. and-true _ _ (eq-eqb _ _ (p .0)) (not-false _ (ne-eqb _ _ (p .1))))
 
   -- the boxes of Nodes(d) whose lists i hands to j: those that j takes from i
@@ -64,19 +63,19 @@ module _ (w : ℕ) (t : List ℕ) where
   unfolding passed
   passed-is i j d =
       setOf-is w (λ k. eqb (hops w t i k) d && eqb (from w t j k) i) (λ k. (hops w t i k ≡ d) × (from w t j k ≡ i))
-      (λ k e. let (a, b) = and-both _ _ e in (eqb-eq _ _ a, eqb-eq _ _ b))
+      (λ k e. let (a, b) = and-both _ _ e in (eqb-true _ _ a, eqb-true _ _ b))
       (λ k p. and-true _ _ (eq-eqb _ _ (p .0)) (eq-eqb _ _ (p .1)))
 
   -- In_SPT(j) and Not_SPT(j) of the tables at rest
   pub in-rest-is : (i j : ℕ) → Is w (inAtRest w t i j) (λ k. from w t i k ≡ j)
   unfolding inAtRest
-  in-rest-is i j = setOf-is w (λ k. eqb (from w t i k) j) (λ k. from w t i k ≡ j) (λ k e. eqb-eq _ _ e) (λ k e. eq-eqb _ _ e)
+  in-rest-is i j = setOf-is w (λ k. eqb (from w t i k) j) (λ k. from w t i k ≡ j) (λ k e. eqb-true _ _ e) (λ k e. eq-eqb _ _ e)
 
   pub not-rest-is : (i j : ℕ) → mem j (word t i) ≡ true → Is w (notAtRest w t i j) (λ k. (together w t i k ≡ true) × (¬ (from w t j k ≡ i)))
   unfolding notAtRest
   not-rest-is i j v = rw v (
       setOf-is w (λ k. together w t i k && not (eqb (from w t j k) i)) (λ k. (together w t i k ≡ true) × (¬ (from w t j k ≡ i)))
-      (λ k e. let (a, b) = and-both _ _ e in (a, eqb-ne _ _ (not-true _ b)))
+      (λ k e. let (a, b) = and-both _ _ e in (a, eqb-false _ _ (not-true _ b)))
       (λ k p. and-true _ _ (p .0) (not-false _ (ne-eqb _ _ (p .1)))))
 
   pub not-rest-off : (i j : ℕ) → mem j (word t i) ≡ false → notAtRest w t i j ≡ 0

@@ -5,14 +5,13 @@ use mathlib.Core.Bool.{cond}
 use mathlib.Core.List.{List, [], _∷_, _++_, append-assoc, append-nil}
 use native.Mathlib.Omega.{arith}
 use native.Mathlib.Decide.{decLt, ℕ-discrete}
-use borrow.Author.Tests.{lt-ltb, le-ltb}
+use borrow.Author.Tests.{lt-ltb, le-ltb, eqb-true, eq-eqb, ne-eqb}
 use lib.Dec.{eqb, ltb}
 use lib.ListN.{length, length-append}
 use Rattle.rules.specs.Sets.{sum, upd}
 use Rattle.rules.specs.Box.{Msg, Desk}
 use Rattle.rules.specs.Hub.{Hub, Wire, send, sendList, sendAll, settle}
 use Rattle.sets.specs.Loops.{by-bool}
-use Rattle.sets.specs.Tables.{eqb-eq, eq-eqb, ne-eqb}
 
 -- ---- hubs and wires are equal by their parts
 
@@ -67,7 +66,7 @@ upd-two : (f : ℕ → ℕ → Wire) (a b : ℕ) (m : Msg) (x y : ℕ) → upd f
 unfolding upd
 upd-two f a b m x y =
     by-bool (eqb x a)
-    (λ e. rw (e, eqb-eq x a e) (by-bool (eqb y b) (λ g. rw (g, eqb-eq y b g)) (λ g. rw g (sym (longer-none (f a y))))))
+    (λ e. rw (e, eqb-true x a e) (by-bool (eqb y b) (λ g. rw (g, eqb-true y b g)) (λ g. rw g (sym (longer-none (f a y))))))
     (λ e. rw e (sym (longer-none (f x y))))
 
 module _ (room a : ℕ) where

@@ -8,12 +8,12 @@ use native.Mathlib.Omega.{arith}
 use native.Mathlib.Decide.{ℕ-discrete}
 use lib.Dec.{eqb}
 use lib.ListN.{length}
+use borrow.Author.Tests.{eqb-true, eq-eqb, ne-eqb, eqb-false}
 use Rattle.rules.specs.Sets.{mem, bit, word, count, sum}
 use Rattle.rules.specs.Box.{Msg, Box}
 use Rattle.rules.specs.Hub.{Hub, Wire}
 use Rattle.rules.specs.Rest.{Table, hops, together, farthest, wiresOf, wireCount, reached, isFirst, sentAtRest, enough}
 use Rattle.sets.specs.Loops.{by-bool, sum-same, sum-mono, sum-none, count-same}
-use Rattle.sets.specs.Tables.{eqb-eq, eq-eqb, ne-eqb, eqb-ne}
 use Rattle.hops.specs.Hops.{hops-zero, hops-near}
 use Rattle.order.specs.Terms.{tally}
 use Rattle.order.specs.Rounds.{links-lt}
@@ -134,9 +134,9 @@ module _ (w : ℕ) (t : List ℕ) (s : Table w t) (h : Hub) (G : Good w t h) whe
         one : (k : ℕ) → k < w → gone w h j k ≡ cond (eqb k j) 0 (bit (together w t j k))
         one k hk =
             by-bool (eqb k j)
-            (λ u. rw u (gone-never w t s h G j k hj hk (inl (sym (eqb-eq k j u)))))
+            (λ u. rw u (gone-never w t s h G j k hj hk (inl (sym (eqb-true k j u)))))
             (λ u. rw u (by-bool (together w t j k)
-            (λ v. rw v (gone-once w t s h G j k hj hk e (λ z. eqb-ne k j u (sym z)) (together-lt w t j k v)))
+            (λ v. rw v (gone-once w t s h G j k hj hk e (λ z. eqb-false k j u (sym z)) (together-lt w t j k v)))
             (λ v. rw v (gone-never w t s h G j k hj hk (inr (together-not w t j k v))))))
 
     abbrev others : ℕ → ℕ

@@ -8,13 +8,14 @@ use native.Mathlib.Omega.{arith}
 use native.Mathlib.Decide.{ℕ-discrete}
 use lib.Dec.{eqb}
 use lib.ListN.{length, length-append}
+use borrow.Author.Tests.{eqb-true, eq-eqb, ne-eqb}
 use Rattle.rules.specs.Sets.{mem, word, sum, upd}
 use Rattle.rules.specs.Box.{Msg, Box, Desk}
 use Rattle.rules.specs.Hub.{Hub, Wire, noWire, settle, underWay}
 use Rattle.rules.specs.Rest.{Table}
 use Rattle.sets.specs.Mem.{mem-past}
 use Rattle.sets.specs.Loops.{by-bool, sum-same}
-use Rattle.sets.specs.Tables.{eqb-eq, eq-eqb, ne-eqb, upd-same, upd-other}
+use Rattle.sets.specs.Tables.{upd-same, upd-other}
 use Rattle.order.specs.Rounds.{link-lt, link-ne, no-link-back}
 use Rattle.order.specs.Messages.{sets, sets-append}
 use Rattle.order.specs.Sums.{sum-plus, sum-more}
@@ -160,10 +161,10 @@ module _ (w : ℕ) (t : List ℕ) where
       unfolding settled
       settled-quiet i k v =
           let q : g .wires i k ≡ noWire = O .quiet i k v in
-          let x : sendsOf j d i k ≡ [] = by-bool (eqb i j) (λ e. rw e (D .mute k (rw (eqb-eq i j e) at v) .0)) (λ e. rw e) in
+          let x : sendsOf j d i k ≡ [] = by-bool (eqb i j) (λ e. rw e (D .mute k (rw (eqb-true i j e) at v) .0)) (λ e. rw e) in
           let y : (left j d g) .wires i k ≡ noWire = by-bool (eqb k j)
           (λ e.
-          let (a, b, c) = D .mute i (no-link-back w t s i j (rw (eqb-eq k j e) at v)) in
+          let (a, b, c) = D .mute i (no-link-back w t s i j (rw (eqb-true k j e) at v)) in
           rw e (wire-same _ noWire (ap (λ (x : Wire). x .log) q) (ap₂ _++_ (ap (λ (x : Wire). x .taken) q) b) c (ap (λ (x : Wire). x .way) q)))
           (λ e. rw e q) in
           ap₂ longer x y

@@ -7,13 +7,14 @@ use mathlib.Core.Logic.{_≢_}
 use native.Mathlib.Omega.{arith}
 use native.Mathlib.Decide.{ℕ-discrete}
 use lib.Dec.{eqb, ltb}
+use borrow.Author.Tests.{eq-eqb}
 use Rattle.rules.specs.Sets.{mem, word}
 use Rattle.rules.specs.Box.{Msg, Desk}
 use Rattle.rules.specs.Hub.{Hub, sleeping, settle, start, popped, handOver, deliver, act, run, drain, startAll, sender, receiver, underWay}
 use Rattle.rules.specs.Rest.{Table, together, reached, sentAtRest}
 use Rattle.sets.specs.Mem.{Is, or-right}
 use Rattle.sets.specs.Loops.{by-bool, forEach-keeps, sum-same}
-use Rattle.sets.specs.Tables.{eq-eqb, upd-other}
+use Rattle.sets.specs.Tables.{upd-other}
 use Rattle.order.specs.Terms.{Names, asks, startsOf, Final, Alike}
 use Rattle.order.specs.Rounds.{setOf-is, link-lt, links-lt}
 use Rattle.order.specs.Invariant.{Sound}

@@ -8,12 +8,12 @@ use native.Mathlib.Omega.{arith}
 use native.Mathlib.Decide.{decLt, ℕ-discrete}
 use lib.Dec.{eqb}
 use lib.ListN.{length}
+use borrow.Author.Tests.{eq-eqb, ne-eqb}
 use Rattle.rules.specs.Sets.{mem, bit, word, sum, each, members}
 use Rattle.rules.specs.Box.{Msg, notspt, neighbors}
 use Rattle.rules.specs.Rest.{Table, hops, farthest, from, saidSet, saidLists, wireList}
 use Rattle.sets.specs.Mem.{mem-empty}
 use Rattle.sets.specs.Loops.{by-bool, sum-none}
-use Rattle.sets.specs.Tables.{eq-eqb, ne-eqb}
 use Rattle.hops.specs.Hops.{hops-self}
 use Rattle.order.specs.Terms.{tally}
 use Rattle.order.specs.Rounds.{passed, passed-is, taken-near, taken-group, said-first}

@@ -9,11 +9,12 @@ use native.Mathlib.Omega.{arith}
 use native.Mathlib.Decide.{ℕ-discrete}
 use lib.Dec.{eqb}
 use lib.ListN.{length}
+use borrow.Author.Tests.{eq-eqb, ne-eqb}
 use Rattle.rules.specs.Sets.{mem, word, upd}
 use Rattle.rules.specs.Box.{Msg, notspt, neighbors, Box, Desk, lists, behind, saveLists, saveHeads, save, isSet, tail, allSets, roundSends, stops, round, work, receive}
 use Rattle.rules.specs.Rest.{Table}
 use Rattle.sets.specs.Loops.{by-bool}
-use Rattle.sets.specs.Tables.{eq-eqb, ne-eqb, upd-same, upd-other}
+use Rattle.sets.specs.Tables.{upd-same, upd-other}
 use Rattle.order.specs.Rounds.{link-lt}
 use Rattle.order.specs.Wire.{wire, wire-more}
 use Rattle.order.specs.Invariant.{Flow, Half, Awake, Stopped, Seat, sleeps, wakes, rests, spoken}

@@ -8,6 +8,7 @@ use mathlib.Core.Logic.{_⊎_, inl, inr, ⊎-elim, _≢_, _↔_}
 use native.Mathlib.Omega.{arith}
 use lib.Dec.{eqb}
 use lib.ListN.{length, drop, replicate}
+use borrow.Author.Tests.{eqb-true, eq-eqb, ne-eqb}
 use Rattle.rules.specs.Sets.{mem, word, sum}
 use Rattle.rules.specs.Box.{Msg}
 use Rattle.rules.specs.Hub.{Hub, noWire, block, underWay}
@@ -15,7 +16,6 @@ use Rattle.rules.specs.Calls.{Ran, runCall, drainCall}
 use Rattle.rules.specs.Rest.{Least, together, farthest, atRest, wireList, wireCount, reached, sentAtRest, enough}
 use Rattle.sets.specs.Mem.{in-lt}
 use Rattle.sets.specs.Loops.{by-bool}
-use Rattle.sets.specs.Tables.{eqb-eq, eq-eqb, ne-eqb}
 use Rattle.calls.specs.Refused.{Untouched}
 use Rattle.order.specs.Terms.{startsOf, handed, SetsOnly, Final}
 use Rattle.order.specs.Groups.{together-walk}
@@ -201,7 +201,7 @@ module _ (sheet : List ℕ) (call : Call) (lent : List ℕ) where
     -- "finished, that is, none is under way"
     pub finished : (ran .finished ≡ true) ↔ (ran .underWay ≡ 0)
     finished = (
-      λ e. behind .way ∙ eqb-eq (underWay 16 hub) 0 (sym (behind .finished) ∙ e),
+      λ e. behind .way ∙ eqb-true (underWay 16 hub) 0 (sym (behind .finished) ∙ e),
       λ e. behind .finished ∙ eq-eqb (underWay 16 hub) 0 (sym (behind .way) ∙ e),
     )
 

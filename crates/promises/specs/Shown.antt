@@ -7,13 +7,13 @@ use mathlib.Core.Logic.{_⊎_, inl, inr, ⊎-elim, _↔_}
 use native.Mathlib.Omega.{arith}
 use lib.Dec.{eqb, lit≤}
 use lib.ListN.{drop}
+use borrow.Author.Tests.{eqb-true}
 use Rattle.rules.specs.Sets.{mem, word}
 use Rattle.rules.specs.Box.{asleep}
 use Rattle.rules.specs.Hub.{Hub, sleeping, start, startAll, block, boardOf, underWay}
 use Rattle.rules.specs.Calls.{Ran, drainCall}
 use Rattle.rules.specs.Rest.{atRest, reached, enough}
 use Rattle.sets.specs.Mem.{in-lt, and-both, bool-ext}
-use Rattle.sets.specs.Tables.{eqb-eq}
 use Rattle.sets.specs.Loops.{by-bool, each-same, forEach-keeps}
 use Rattle.order.specs.Terms.{Reached, begin, Names, asks, Final, Alike}
 use Rattle.order.specs.Started.{starts-is}
@@ -100,7 +100,7 @@ asked-low n t [] k m e = absurd (true≢false (sym e))
 asked-low n t (a ∷ []) k m e = absurd (true≢false (sym e))
 asked-low n t (a ∷ b ∷ l) k m e =
     by-bool (eqb a b && eqb a k)
-    (λ u. omega (arith, eqb-eq a k (and-both (eqb a b) (eqb a k) u .1), m .0 .0))
+    (λ u. omega (arith, eqb-true a k (and-both (eqb a b) (eqb a k) u .1), m .0 .0))
     (λ u. asked-low n t l k (m .2) (rw u at e))
 
 pub starting-low : (n : ℕ) (t : List ℕ) (call : Call) → Checked n t call → (k : ℕ) → mem k (starting call) ≡ true → k < n

@@ -7,10 +7,10 @@ use mathlib.Core.Logic.{_↔_}
 use native.Mathlib.Omega.{arith}
 use lib.Dec.{eqb}
 use lib.ListN.{length}
+use borrow.Author.Tests.{eqb-true, eq-eqb}
 use Rattle.rules.specs.Sets.{mem}
 use Rattle.sets.specs.Mem.{and-both}
 use Rattle.sets.specs.Loops.{by-bool}
-use Rattle.sets.specs.Tables.{eqb-eq, eq-eqb}
 use Rattle.order.specs.Terms.{asks, startsOf}
 use Rattle.order.specs.Started.{starts-is}
 use Rattle.promises.specs.Conditions.{firstOf, secondOf}
@@ -23,7 +23,7 @@ asked-pair k (a ∷ b ∷ l) e =
     by-bool (eqb a b && eqb a k)
     (λ u.
     let (x, y) = and-both (eqb a b) (eqb a k) u in
-    (0, omega arith, eqb-eq a k y, sym (eqb-eq a b x) ∙ eqb-eq a k y))
+    (0, omega arith, eqb-true a k y, sym (eqb-true a b x) ∙ eqb-true a k y))
     (λ u.
     let (i, h, x, y) = asked-pair k l (rw u at e) in
     let f : 2 * suc i ≡ suc (suc (2 * i)) = omega arith in

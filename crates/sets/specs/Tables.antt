@@ -1,33 +1,18 @@
 -- Tables: a set joins an entry; the union of a table's sets; a function with one place changed. Assumes nothing.
 use Prim.Native.Nat.{ℕ, zero, suc, _^_, _<_}
 use mathlib.Core.Path.{_≡_, refl, sym, _∙_}
-use mathlib.Core.Bool.{true, false, true≢false, false≢true}
+use mathlib.Core.Bool.{true, false, false≢true}
 use mathlib.Core.List.{List}
 use mathlib.Core.Logic.{_⊎_, ⊎-elim, _≢_}
 use native.Mathlib.Omega.{arith}
 use native.Mathlib.Decide.{ℕ-discrete}
 use lib.Bits.{bitOr, or-lt}
-use lib.Dec.{eqb, eqb→eq, eqb-refl}
 use lib.ListN.{length, length-set}
 use lib.Pow.{pow-pos}
 use lib.Seq.{getD-set-same, getD-set-other}
+use borrow.Author.Tests.{eq-eqb, ne-eqb}
 use Rattle.rules.specs.Sets.{mem, word, joinAt, union, upd}
-use Rattle.sets.specs.Mem.{mem-empty, in-or, or-l, or-r, T-true, true-T}
-use Rattle.sets.specs.Loops.{by-bool}
-
--- ---- equality of numbers as a test
-
-pub eqb-eq : (m n : ℕ) → eqb m n ≡ true → m ≡ n
-eqb-eq m n h = eqb→eq m n (T-true (eqb m n) h)
-
-pub eq-eqb : (m n : ℕ) → m ≡ n → eqb m n ≡ true
-eq-eqb m n h = rw h (true-T (eqb n n) (eqb-refl n))
-
-pub ne-eqb : (m n : ℕ) → m ≢ n → eqb m n ≡ false
-ne-eqb m n h = by-bool (eqb m n) (λ e. absurd (h (eqb-eq m n e))) (λ e. e)
-
-pub eqb-ne : (m n : ℕ) → eqb m n ≡ false → m ≢ n
-eqb-ne m n h e = true≢false (sym (eq-eqb m n e) ∙ h)
+use Rattle.sets.specs.Mem.{mem-empty, in-or, or-l, or-r}
 
 -- ---- a function with one place changed
 

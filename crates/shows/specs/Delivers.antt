@@ -10,14 +10,14 @@ use lib.Bits.{bitOr, or-lt, or-zero-l}
 use lib.Dec.{eqb}
 use lib.ListN.{length, getD, set, length-set, length-append, replicate}
 use lib.Pow.{pow-lt}
-use borrow.Author.Tests.{lt-ltb}
+use borrow.Author.Tests.{lt-ltb, eqb-true, eq-eqb, ne-eqb}
 use Rattle.rules.specs.Sets.{mem, word, upd}
 use Rattle.rules.specs.Box.{Msg, notspt, neighbors, Box, Desk, started, startSends, behind, isSet, headSet, tail, allSets, takeSets, roundSends, stops, nextHop, saveHeads, receive}
 use Rattle.rules.specs.Hub.{Wire, Hub, popped, deliver, start, queuesOf}
 use Rattle.rules.specs.Rest.{Table}
 use Rattle.sets.specs.Mem.{mem-empty, ext}
 use Rattle.sets.specs.Loops.{by-bool, all-in, all-out, sum-same, sum-none}
-use Rattle.sets.specs.Tables.{eqb-eq, eq-eqb, ne-eqb, upd-same, upd-other}
+use Rattle.sets.specs.Tables.{upd-same, upd-other}
 use Rattle.hops.specs.Rest.{far-lt}
 use Rattle.order.specs.Send.{left, settled}
 use Rattle.order.specs.Invariant.{Sound, SeatOf, sleeps, wakes, rests, ways}
@@ -239,7 +239,7 @@ module _ (t : List ℕ) (T : Table 16 t) (g : Going) (h : Hub) (S : Shows t g h)
       ∙ ⊎-elim (λ z. rw z) (λ z. ⊎-elim (λ u. rw u) (λ u. rw u) z) (three-states t T h (Z .good) b hb)
 
   slept : (b : ℕ) → b < 16 → sleepsNow (g .turn) b ≡ true → (h .boxes b) .state ≡ 0
-  slept b hb e = eqb-eq _ 0 (sym (sleeps-is b hb) ∙ e)
+  slept b hb e = eqb-true _ 0 (sym (sleeps-is b hb) ∙ e)
 
   up : (b : ℕ) → b < 16 → sleepsNow (g .turn) b ≡ false → (h .boxes b) .state ≢ 0
   up b hb e z = true≢false (sym (eq-eqb _ 0 z) ∙ sym (sleeps-is b hb) ∙ e)

@@ -7,14 +7,13 @@ use mathlib.Core.Logic.{_⊎_, _≢_}
 use native.Mathlib.Omega.{arith}
 use lib.Dec.{eqb}
 use lib.ListN.{length, getD, length-append}
-use borrow.Author.Tests.{lt-ltb}
+use borrow.Author.Tests.{lt-ltb, eqb-true}
 use Rattle.rules.specs.Sets.{mem, word, members}
 use Rattle.rules.specs.Box.{Msg, notspt, neighbors, Box, Desk, started, startSends, roundSends, stops, nextHop}
 use Rattle.rules.specs.Hub.{Hub}
 use Rattle.rules.specs.Rest.{Table}
 use Rattle.sets.specs.Mem.{mem-empty, and-both, in-lt}
 use Rattle.sets.specs.Loops.{by-bool}
-use Rattle.sets.specs.Tables.{eqb-eq}
 use Rattle.order.specs.Send.{left}
 use Rattle.wires.specs.Wires.{sixteen, underWay}
 use Rattle.boxes.specs.declared.Record.{Record}
@@ -65,7 +64,7 @@ unfolding nextHop
 next-state x = refl
 
 two : (n : ℕ) → eqb n 2 ≡ true → n ≡ 2
-two n e = eqb-eq n 2 e
+two n e = eqb-true n 2 e
 
 module _ (t : List ℕ) (T : Table 16 t) (g : Going) (h : Hub) (S : Shows t g h) (a b : ℕ) (ha : a < 16) (hb : b < 16) (P : Hub) (k : Arrival) (s : List ℕ) (C : Comes t a b k) (O : Off a b (k .moved) s P h) where
   abbrev r : Record
@@ -102,7 +101,7 @@ module _ (t : List ℕ) (T : Table 16 t) (g : Going) (h : Hub) (S : Shows t g h)
     still-ends : ends o ≡ true → n ≡ 0
     still-ends e =
         let (x, w) = and-both (isStopped (woken r k)) (k .wakes) (sym (ends-still r k round) ∙ e) in
-        eqb-eq n 0 (sym (started-stops b n) ∙ ap isStopped (sym (woken-up w)) ∙ x)
+        eqb-true n 0 (sym (started-stops b n) ∙ ap isStopped (sym (woken-up w)) ∙ x)
 
     still-clear : cond (ends o) (clearTo b n 16 s) s ≡ s
     unfolding clearTo

@@ -11,13 +11,12 @@ use lib.Dec.{ltb}
 use lib.ListN.{length, set, length-set, replicate}
 use lib.Pow.{pow-lt}
 use lib.Seq.{getD-set-same, getD-set-other}
-use borrow.Author.Tests.{le-leb, lt-leb, lt-ltb}
+use borrow.Author.Tests.{le-leb, lt-leb, lt-ltb, eq-eqb, ne-eqb}
 use Rattle.rules.specs.Sets.{mem, word}
 use Rattle.rules.specs.Box.{Msg, notspt, neighbors, lists, behind, saveLists, saveHeads, isSet, headSet, tail}
 use Rattle.rules.specs.Hub.{Wire}
 use Rattle.sets.specs.Mem.{mem-or, mem-one, mem-empty}
 use Rattle.sets.specs.Loops.{by-bool, forEach-keeps}
-use Rattle.sets.specs.Tables.{eq-eqb, ne-eqb}
 use Rattle.order.specs.Round.{has-head}
 use Rattle.wires.specs.Wires.{sixteen, Waiting, waiting, Formed, Others, queued, front, taken, takenWord, Taken}
 use Rattle.wires.specs.Words.{wordOf, isList, originOf, setOf, Small}

@@ -9,10 +9,10 @@ use lib.Bits.{bitOr}
 use lib.Dec.{eqb}
 use lib.ListN.{length, set, length-set}
 use lib.Seq.{getD-set-same, getD-set-other, ext-getD}
+use borrow.Author.Tests.{eq-eqb, ne-eqb}
 use Rattle.rules.specs.Sets.{mem, word}
 use Rattle.sets.specs.Mem.{mem-or, mem-one, mem-empty}
 use Rattle.sets.specs.Loops.{forEach-keeps}
-use Rattle.sets.specs.Tables.{eq-eqb, ne-eqb}
 use Rattle.boxes.specs.Step.{saveAll}
 
 -- ---- the table with its listed entries replaced

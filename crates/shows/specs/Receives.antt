@@ -9,10 +9,11 @@ use native.Mathlib.Omega.{arith}
 use native.Mathlib.Decide.{ℕ-discrete}
 use lib.Dec.{eqb}
 use lib.ListN.{length, set}
+use borrow.Author.Tests.{eq-eqb}
 use Rattle.rules.specs.Sets.{mem, all, upd}
 use Rattle.rules.specs.Box.{Msg, notspt, neighbors, Box, Desk, lists, behind, saveLists, saveHeads, save, isSet, headSet, tail, allSets, takeSets, roundSends, stops, nextHop, round, work, receive}
 use Rattle.sets.specs.Loops.{by-bool, all-out}
-use Rattle.sets.specs.Tables.{eq-eqb, upd-same, upd-other}
+use Rattle.sets.specs.Tables.{upd-same, upd-other}
 
 -- ---- a queue with no list at its head
 

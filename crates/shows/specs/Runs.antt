@@ -10,14 +10,13 @@ use lib.Bits.{bitOr}
 use lib.Dec.{eqb, ltb}
 use lib.ListN.{length, getD, drop, getD-replicate}
 use lib.Seq.{getD-drop, drop-drop}
-use borrow.Author.Tests.{lt-ltb, le-ltb, ltb-true}
+use borrow.Author.Tests.{lt-ltb, le-ltb, ltb-true, eqb-true, eq-eqb, ne-eqb}
 use Rattle.rules.specs.Sets.{mem, word, least, any}
 use Rattle.rules.specs.Box.{Msg, asleep}
 use Rattle.rules.specs.Hub.{Hub, sleeping, deliver, act, run, drain, holds, sender, receiver}
 use Rattle.rules.specs.Rest.{Table}
 use Rattle.sets.specs.Mem.{mem-empty}
 use Rattle.sets.specs.Loops.{by-bool, least-ok, least-hit, least-same, any-out}
-use Rattle.sets.specs.Tables.{eqb-eq, eq-eqb, ne-eqb}
 use Rattle.order.specs.Invariant.{Sound}
 use Rattle.order.specs.Terms.{Names, begin}
 use Rattle.order.specs.Reached.{sound}
@@ -30,7 +29,6 @@ use Rattle.tables.proofs.Laws.{entries-length, laid-waits, laid-formed, laid-li
 use Rattle.boxes.specs.declared.Arrival.{Arrival}
 use Rattle.boxes.specs.declared.Departure.{Departure}
 use Rattle.boxes.specs.Record.{boxOf, recordOf, blank, box-record}
-use Rattle.boxes.specs.Step.{stepDef}
 use Rattle.mail.specs.Gather.{wireOf}
 use Rattle.turn.specs.declared.Pair.{Pair}
 use Rattle.turn.specs.Turn.{Turn, turnOf, Took, searched, nextPair, quiet, oneList, roundOf, tookRound, tookFirst, delivered, begun, tookPair, tookDef, heardAt, nextTurn, putDef}
@@ -41,9 +39,6 @@ use Rattle.shows.specs.Steps.{passes}
 use Rattle.shows.specs.Delivers.{steppedAt, idle, begun-shows, delivered-shows}
 
 -- ---- what a turn carries on besides
-
-abbrev outOf : Going → ℕ → Arrival → Departure
-outOf g b k = stepDef (getD (g .row) b blank) k .out
 
 put-at : (s : List ℕ) (o : Departure) (c : Turn) → (putDef s o c) .turn .at ≡ cond (ltb (c .at) (c .pairs)) (c .at + 1) (c .at)
 unfolding putDef nextTurn
@@ -118,7 +113,7 @@ module _ (t : List ℕ) (T : Table 16 t) (list : List ℕ) where
       (λ f.
       let k : Took = begun (g .turn) b (g .store) in
       let u : turnDef list g ≡ steppedAt g b (k .store) (k .arrival) = turn-as list g (k .store) (k .arrival) b (took-pair g a b ha hb e ∙ rw f) (begun-own (g .turn) b (g .store)) in
-      let w : a ≡ b = eqb-eq a b f in
+      let w : a ≡ b = eqb-true a b f in
       rw (f, u, w) (begun-shows t T g h S Z b hb))
       (λ f.
       let k : Took = delivered (g .turn) a b (g .store) in

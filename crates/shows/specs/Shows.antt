@@ -10,14 +10,14 @@ use lib.Bits.{bitOr}
 use lib.Dec.{eqb, ltb}
 use lib.ListN.{length, getD, set, length-set}
 use lib.Seq.{getD-set-same, getD-set-other}
-use borrow.Author.Tests.{lt-ltb}
+use borrow.Author.Tests.{lt-ltb, eq-eqb, ne-eqb}
 use Rattle.rules.specs.Sets.{mem, without, word, forEach}
 use Rattle.rules.specs.Box.{Msg, Box, Desk}
 use Rattle.rules.specs.Hub.{Hub}
 use Rattle.rules.specs.Rest.{Table}
 use Rattle.sets.specs.Mem.{mem-or, mem-without, mem-one}
 use Rattle.sets.specs.Loops.{by-bool}
-use Rattle.sets.specs.Tables.{eq-eqb, ne-eqb, upd-same, upd-other}
+use Rattle.sets.specs.Tables.{upd-same, upd-other}
 use Rattle.order.specs.Send.{left, settled}
 use Rattle.wires.specs.Wires.{sixteen, Waiting, underWay}
 use Rattle.boxes.specs.declared.Record.{Record}

@@ -6,7 +6,7 @@ use mathlib.Core.List.{List, [], _∷_, _++_}
 use mathlib.Core.Logic.{_⊎_, inl, inr, _≢_}
 use native.Mathlib.Omega.{arith}
 use Rattle.rules.specs.Sets.{mem, word}
-use Rattle.rules.specs.Box.{Msg, Box, behind, asleep}
+use Rattle.rules.specs.Box.{Msg, Box, behind}
 use Rattle.rules.specs.Hub.{Hub, Wire, noWire}
 use Rattle.rules.specs.Rest.{Table, saidSet}
 use Rattle.sets.specs.Mem.{setOf-lt, in-lt}
@@ -99,15 +99,7 @@ module _ (t : List ℕ) (T : Table 16 t) where
     pub off-queue : (a b : ℕ) → mem a (word t b) ≡ false → (h .wires a b) .queue ≡ []
     off-queue a b v = ap (λ (x : Wire). x .queue) (none a b v)
 
-    -- a sleeping box is blank; every box's tables have 16 words, and its HOP is small; its state is one of three
-    pub asleep-box : (b : ℕ) → b < 16 → (h .boxes b) .state ≡ 0 → h .boxes b ≡ asleep 16
-    asleep-box b hb e = go (G .seats b hb)
-      where
-        go : SeatOf 16 t h b (λ i. (h .wires i b) .way) → h .boxes b ≡ asleep 16
-        go (sleeps p) = p .blank
-        go (wakes p) = absurd (omega (arith, p .half .state))
-        go (rests p) = absurd (omega (arith, p .state))
-
+    -- every box's tables have 16 words, and its HOP is small; its state is one of three
     pub three-states : (b : ℕ) → b < 16 → ((h .boxes b) .state ≡ 0) ⊎ (((h .boxes b) .state ≡ 1) ⊎ ((h .boxes b) .state ≡ 2))
     three-states b hb = go (G .seats b hb)
       where

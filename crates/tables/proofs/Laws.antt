@@ -177,10 +177,6 @@ lay-at t (suc n) s k l h m =
       | no e ↦ entry-other (layTo t n s) n k (word t n) e ∙ lay-at t n s k (omega arith) (omega arith) m
     ]
 
-pub laid-length : (t : List ℕ) → length (laid t) ≡ 9264
-unfolding laid none
-laid-length t = lay-length t 16 (none sixteen) ∙ length-replicate {A = ℕ} 9264 0
-
 pub laid-waits : (t : List ℕ) (i : ℕ) → waiting sixteen (laid t) i ≡ record { queue = []; way = [] }
 unfolding laid
 laid-waits t i = lay-waits t 16 (none sixteen) i (omega arith) ∙ none-law sixteen sixteen-proper .nothing i

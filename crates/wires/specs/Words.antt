@@ -4,7 +4,7 @@
 use Prim.Native.Nat.{ℕ, _+_, _*_, _/_, _%_, _<_}
 use native.Mathlib.Omega.{arith}
 use mathlib.Core.Path.{_≡_, ap₂}
-use mathlib.Core.Bool.{Bool, true, false, cond}
+use mathlib.Core.Bool.{Bool, true, cond}
 use lib.Dec.{leb}
 use borrow.Author.Tests.{le-leb, lt-leb}
 use Rattle.rules.specs.Box.{Msg, notspt, neighbors}
@@ -45,12 +45,3 @@ round-trip (neighbors k s) h =
     let d : ((k + 1) * 65536 + s) / 65536 ≡ k + 1 = omega arith in
     let o : (k + 1 + 15) % 16 ≡ k = omega arith in
     rw (l, d) (ap₂ neighbors o e)
-
--- a word that is a list, and one that is a set
-pub list-read : (x : ℕ) → isList x ≡ true → msgOf x ≡ neighbors (originOf x) (setOf x)
-unfolding msgOf
-list-read x e = rw e
-
-pub set-read : (x : ℕ) → isList x ≡ false → msgOf x ≡ notspt (setOf x)
-unfolding msgOf
-set-read x e = rw e
