@@ -1,7 +1,7 @@
 -- The round trip of a link sheet, over the calls: what is read of what was written, and what is written of what was read. Assumes nothing.
 use Prim.Native.Nat.{ℕ, _+_, _*_, _-_, _^_, _≤_, _<_}
 use mathlib.Core.Path.{_≡_, refl, sym, ap, _∙_}
-use mathlib.Core.Bool.{Bool, true, false, not}
+use mathlib.Core.Bool.{Bool, not}
 use mathlib.Core.List.{List, _++_}
 use native.Mathlib.Omega.{arith}
 use lib.Dec.{eqb}
@@ -11,7 +11,8 @@ use Rattle.rules.specs.Sets.{word}
 use Rattle.rules.specs.Outcome.{Outcome, refused, accepted, refuse, andThen}
 use Rattle.rules.specs.Sheet.{Sheet, readSheet, writeSheet, linkCount}
 use Rattle.rules.specs.Calls.{Read, Written, reading, readAnswer, writeAnswer, readCall, writeCall}
-use Rattle.sheet_laws.specs.Answers.{clash}
+use Rattle.sheet_laws.specs.Pairs.{refuse-accepted}
+use Rattle.sheet_laws.specs.Accepted.{then-accepted}
 use Rattle.sheet_laws.specs.RoundTrip.{reads-back, writes-back, pairs-alone}
 use Rattle.calls.specs.Refused.{Numbered, reading-numbered, write-numbered}
 
@@ -31,10 +32,7 @@ got table (accepted r) h z = (r, refl, refl)
 
 -- what was read with a table to fill was read without one
 then-was : (c : Bool) (o : Outcome Sheet) (r : Sheet) → andThen o (λ q. refuse c 12 0 (accepted q)) ≡ accepted r → o ≡ accepted r
-unfolding andThen refuse
-then-was c (refused n p) r e = e
-then-was false (accepted q) r e = e
-then-was true (accepted q) r e = absurd (clash e)
+then-was c o r e = let (q, g, h) = then-accepted o _ e in g ∙ refuse-accepted c 12 0 _ h .1
 
 -- "Reading a written sheet gives the table back"
 pub write-read : (n : ℕ) (t buffer table : List ℕ) → ((i : ℕ) → word t i < 2 ^ 16) → length table ≡ 16

@@ -22,7 +22,8 @@ use Rattle.sheet_laws.specs.Links.{made, made-table, made-fine}
 use Rattle.sheet_laws.specs.LinkPairs.{linkPairs-count}
 use Rattle.sheet_laws.specs.Back.{list-back}
 
-then-accepted : {A B : Type 0} {b : B} (o : Outcome A) (f : A → Outcome B) → andThen o f ≡ accepted b → (a : A) × (o ≡ accepted a) × (f a ≡ accepted b)
+-- what a step after another accepts, the other accepted first
+pub then-accepted : {A B : Type 0} {b : B} (o : Outcome A) (f : A → Outcome B) → andThen o f ≡ accepted b → (a : A) × (o ≡ accepted a) × (f a ≡ accepted b)
 unfolding andThen
 then-accepted (refused n p) f e = absurd (clash e)
 then-accepted (accepted a) f e = (a, refl, e)
