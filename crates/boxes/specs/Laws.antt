@@ -9,12 +9,11 @@ use lib.Dec.{eqb}
 use lib.ListN.{set}
 use Rattle.rules.specs.Sets.{mem, without, word, members, forEach}
 use Rattle.rules.specs.Box.{Msg, notspt, neighbors, Box, started, startSends, takeSet, takeSets, before, roundSends, stops, nextHop}
-use Rattle.sets.specs.Loops.{getD-words}
+use Rattle.sets.specs.Loops.{getD-words, forEach-empty}
 use Rattle.boxes.specs.declared.Record.{Record}
 use Rattle.boxes.specs.declared.Arrival.{Arrival}
 use Rattle.boxes.specs.Record.{boxOf, recordOf}
 use Rattle.boxes.specs.Step.{woken, taken, hopped, withoutEach, setsOf, originsOf, noSets, saveAll, isStopped, saved, settled, rounded, worked, stepDef}
-use Rattle.boxes.specs.Tables.{forEach-none}
 
 -- ---- the step by its cases
 
@@ -58,7 +57,7 @@ pub saved-none : (a : Arrival) (b : Box) → a .listed ≡ 0 → saved a b ≡ b
 unfolding saved saveAll
 saved-none a b e = by-stop (isStopped b) where
   keeps : saveAll (b .neighbors) (a .listed) (a .lists) ≡ b .neighbors
-  keeps = rw e (forEach-none (λ k u. set u k (word (a .lists) k)) 16 (b .neighbors))
+  keeps = rw e (forEach-empty (λ k u. set u k (word (a .lists) k)) 16 (b .neighbors))
 
   by-stop : (p : Bool)
       → (record { state = b .state; hop = b .hop; nodes = b .nodes; inSpt = b .inSpt; notSpt = b .notSpt; neighbors = cond p (b .neighbors) (saveAll (b .neighbors) (a .listed) (a .lists)) }) ≡ b

@@ -3,15 +3,14 @@ use Prim.Native.Nat.{ℕ, zero, suc, _+_, _-_, _/_, _%_, _<_, _≤_, max}
 use native.Mathlib.Omega.{arith}
 use native.Mathlib.Decide.{decLt}
 use mathlib.Core.Path.{_≡_, refl}
-use mathlib.Core.Bool.{Bool, true, false, cond}
+use mathlib.Core.Bool.{cond}
 use mathlib.Core.List.{List}
 use lib.Bits.{bitOr, or-step, or-zero-l, or-zero-r, or-comm}
 use lib.ListN.{length, set, take}
 use lib.Seq.{set-out, set-set, set-getD, getD-set-same, getD-set-other, take-suc-set}
 use Rattle.rules.specs.Sets.{mem, word, union, joinAt, each, words, forEach}
 use Rattle.rules.specs.Box.{before}
-use Rattle.sets.specs.Mem.{mem-empty}
-use Rattle.sets.specs.Tables.{joinAt-same, joinAt-other}
+use Rattle.sets.specs.Tables.{set-if, joinAt-same, joinAt-other}
 
 -- ---- unions
 
@@ -84,19 +83,8 @@ pub words-more : (l : List ℕ) (n : ℕ) (f : ℕ → ℕ) → n < length l →
 unfolding words each
 words-more l n f h e = rw (take-suc-set l n (f n), e)
 
--- the empty set has no member to do anything for
-pub forEach-none : {A : Type 0} (f : ℕ → A → A) (n : ℕ) (a : A) → forEach 0 f n a ≡ a
-unfolding forEach
-forEach-none f zero a = refl
-forEach-none f (suc n) a = rw (mem-empty n, forEach-none f n a)
-
--- a store where the test holds is a store of what the test picks
-pub set-if : (t : List ℕ) (k x : ℕ) (p : Bool) → set t k (cond p x (word t k)) ≡ cond p (set t k x) t
-set-if t k x true = refl
-set-if t k x false = set-getD t k 0
-
 -- the listed entries of a table become those of lists, one at a time
 pub save-next : (listed : ℕ) (lists t u : List ℕ) (k x : ℕ) → u ≡ forEach listed (λ i v. set v i (word lists i)) k t → x ≡ cond (mem k listed) (word lists k) (word u k)
     → set u k x ≡ forEach listed (λ i v. set v i (word lists i)) (suc k) t
 unfolding forEach
-save-next listed lists t u k x eu ex = rw (ex, set-if, eu)
+save-next listed lists t u k x eu ex = rw (ex, ← set-if, eu)

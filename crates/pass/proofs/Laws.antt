@@ -1,6 +1,6 @@
 -- Turns that touch no record: what a look at a pair shows comes to what the turn's definition takes; such turns, one after the other, as many as are left; and what
 -- the calls of a look come to. Assumes nothing.
-use Prim.Native.Nat.{ℕ, zero, suc, _+_, _*_, _-_, _^_, _<_, _≤_}
+use Prim.Native.Nat.{ℕ, zero, suc, _*_, _-_, _^_, _<_, _≤_}
 use native.Mathlib.Omega.{arith}
 use mathlib.Core.Path.{_≡_, refl, sym, ap, _∙_, subst}
 use mathlib.Core.Bool.{Bool, true, false, not, _&&_, _||_, cond, true≢false}
@@ -10,13 +10,13 @@ use lib.Dec.{eqb, ltb}
 use lib.ListN.{length, set}
 use borrow.Author.Tests.{eq-eqb, ne-eqb, eqb-true, eqb-false, not-true}
 use Rattle.rules.specs.Sets.{mem, word}
-use Rattle.sets.specs.Loops.{by-bool}
+use Rattle.sets.specs.Loops.{by-bool, pick}
 use Rattle.wires.specs.Words.{isList}
-use Rattle.wires.specs.Wires.{sixteen, queued, underWay, arrived, oldest, front, skipped}
+use Rattle.wires.specs.Wires.{sixteen, place, queued, underWay, arrived, oldest, front, skipped}
 use Rattle.boxes.specs.declared.Departure.{Departure}
 use Rattle.mail.specs.Gather.{wireOf}
 use Rattle.tables.specs.Tables.{linksOf, heardOf, busyOf, withHeard, withBusy}
-use Rattle.tables.proofs.Laws.{Same, arrived-same, skipped-same, same-links, same-heard, same-busy, heard-heard, busy-busy, links-heard, busy-heard, links-busy, heard-busy, put-length}
+use Rattle.tables.proofs.Laws.{Same, arrived-same, skipped-same, same-links, same-heard, same-busy, same-refl, both-links, both-heard, both-busy}
 use Rattle.turn.specs.declared.Carried.{Carried}
 use Rattle.turn.specs.declared.Pair.{Pair}
 use Rattle.turn.specs.declared.Receiver.{Receiver}
@@ -24,7 +24,7 @@ use Rattle.pass.specs.declared.Glance.{Glance}
 use Rattle.turn.specs.Turn.{Turn, turnOf, lessOf, pairOf, nextPair, sleeps, quiet, begun, tookPair, Took, Put, nextTurn, putDef}
 use Rattle.turn.specs.Parts.{took, receiverOf, quietTo, firstTo, deliveredTo, leftAfter, atAfter, movedAfter}
 use Rattle.pass.specs.Pass.{Glanced, glanced, seenAs, glanceFirst, glanceTo, glancePair, kept, carriedOn, glanceAt, toAfter, quietTurn, quietStore, passOne, passTo, passAll}
-use Rattle.turn.proofs.Laws.{pick, delivered-is}
+use Rattle.turn.proofs.Laws.{delivered-is}
 
 -- ---- a look at a pair, and what the turn's definition takes for it
 
@@ -77,7 +77,7 @@ front-oldest : (s : List ℕ) (i : ℕ) → eqb (underWay sixteen s i) 0 ≡ fal
 unfolding front oldest
 front-oldest s i w q =
     let z : queued sixteen s i ≡ 0 = eqb-true _ _ q in
-    rw w (ap (λ (k : ℕ). word s (i * 36 + 48 + k)) (omega (arith, z)))
+    rw w (ap (λ (k : ℕ). word s (place sixteen i k)) (omega (arith, z)))
 
 glance-delivered : (r : Receiver) (a : ℕ) (s : List ℕ) → glanceTo r a s .glance .quiet ≡ true
     → deliveredTo r a s ≡ took (glanceTo r a s .store) (quietTo r a (glanceTo r a s .glance .moved) false (glanceTo r a s .glance .heard))
@@ -100,18 +100,15 @@ glance-same : (r : Receiver) (a : ℕ) (s : List ℕ) → Same s (glanceTo r a s
 unfolding glanceTo glanceFirst
 glance-same r a s =
     let i : ℕ = wireOf a (r .own) in
-    pick P (eqb (underWay sixteen s i) 0) still (pick P (r .stopped) (skipped-same s i) (pick P (r .sleeps) still (pick P (eqb (queued sixteen s i) 0)
-    (pick P (isList (front sixteen s i)) still (pick P (eqb (bitOr (r .heard) (2 ^ a)) (r .links)) still (arrived-same s i))) (arrived-same s i))))
+    pick P (eqb (underWay sixteen s i) 0) (same-refl s) (pick P (r .stopped) (skipped-same s i) (pick P (r .sleeps) (same-refl s) (pick P (eqb (queued sixteen s i) 0)
+    (pick P (isList (front sixteen s i)) (same-refl s) (pick P (eqb (bitOr (r .heard) (2 ^ a)) (r .links)) (same-refl s) (arrived-same s i))) (arrived-same s i))))
   where
     P : Glanced → Type 0
     P g = Same s (g .store)
 
-    still : Same s s
-    still k l = refl
-
 pair-same : (p : Pair) (r : Receiver) (s : List ℕ) → Same s (glancePair p r s .store)
 unfolding glancePair
-pair-same p r s = pick P (p .some) (pick P (eqb (p .«from») (r .own)) (λ k l. refl) (glance-same r (p .«from») s)) (λ k l. refl)
+pair-same p r s = pick P (p .some) (pick P (eqb (p .«from») (r .own)) (same-refl s) (glance-same r (p .«from») s)) (same-refl s)
   where
     P : Glanced → Type 0
     P g = Same s (g .store)
@@ -272,11 +269,8 @@ module _ (list s s′ : List ℕ) (q : Carried) (p : Pair) (r : Receiver) (k : G
 
   module _ (size : length s′ ≡ 9264) (low-a : p .«from» < 16) (low-b : p .to < 16) (lh : k .heard < 65536) (to at-a : ℕ) (lt : to < 65536)
       (ea : at-a ≡ word (busyOf s′) (p .«from»)) (et : to ≡ lessOf s′ (k .moved) (p .«from») (p .to) at-a) where
-    abbrev u : List ℕ
-    u = withHeard s′ (p .to) (k .heard)
-
     abbrev v : List ℕ
-    v = withBusy u (p .«from») to
+    v = withBusy (withHeard s′ (p .to) (k .heard)) (p .«from») to
 
     same : Same s s′
     same = subst (Same s) (sym (ap (λ (z : Glanced). z .store) eg)) (pair-same p r s)
@@ -285,15 +279,13 @@ module _ (list s s′ : List ℕ) (q : Carried) (p : Pair) (r : Receiver) (k : G
     to-is = et ∙ ap (lessOf s′ (k .moved) (p .«from») (p .to)) (ea ∙ ap (λ (z : List ℕ). word z (p .«from»)) (same-busy s s′ same))
 
     links-is : linksOf v ≡ linksOf s
-    links-is = links-busy u (p .«from») to low-a ∙ links-heard s′ (p .to) (k .heard) low-b ∙ same-links s s′ same
+    links-is = both-links s′ (p .«from») (p .to) (k .heard) to size low-a low-b lh lt ∙ same-links s s′ same
 
     heard-is : heardOf v ≡ set (heardOf s) (p .to) (k .heard)
-    heard-is = heard-busy u (p .«from») to low-a ∙ heard-heard s′ (p .to) (k .heard) size low-b lh ∙ ap (λ (z : List ℕ). set z (p .to) (k .heard)) (same-heard s s′ same)
+    heard-is = both-heard s′ (p .«from») (p .to) (k .heard) to size low-a low-b lh lt ∙ ap (λ (z : List ℕ). set z (p .to) (k .heard)) (same-heard s s′ same)
 
     busy-is : busyOf v ≡ set (busyOf s) (p .«from») to
-    busy-is =
-        busy-busy u (p .«from») to (put-length s′ (16 + p .to) (k .heard) ∙ size) low-a lt
-        ∙ ap (λ (z : List ℕ). set z (p .«from») to) (busy-heard s′ (p .to) (k .heard) low-b ∙ same-busy s s′ same)
+    busy-is = both-busy s′ (p .«from») (p .to) (k .heard) to size low-a low-b lh lt ∙ ap (λ (z : List ℕ). set z (p .«from») to) (same-busy s s′ same)
 
     pub pass-goes-on : (w : List ℕ) (start : Put) (left at moved : ℕ) → w ≡ v → 1 ≤ q .left → k .quiet ≡ true → passAll list (carriedOn s q) ≡ passAll list start
         → left ≡ leftAfter (q .left) (q .at) (q .pairs) (k .moved) → at ≡ atAfter (q .at) (q .pairs) → moved ≡ movedAfter (q .moved) (k .moved)

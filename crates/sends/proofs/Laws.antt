@@ -1,20 +1,21 @@
 -- What the calls of a turn's last part come to in their definitions: each law takes what the callees promise, and gives what the function promises.
 -- Assumes nothing.
-use Prim.Native.Nat.{ℕ, zero, suc, _+_, _%_, _^_, _<_}
+use Prim.Native.Nat.{ℕ, _+_, _%_, _^_, _<_}
 use native.Mathlib.Omega.{arith}
 use mathlib.Core.Path.{_≡_, refl, sym, ap, _∙_, subst}
 use mathlib.Core.Bool.{Bool, true, false, _&&_, _||_, cond}
-use mathlib.Core.List.{List, [], _∷_}
+use mathlib.Core.List.{List}
 use lib.Bits.{bitOr}
 use lib.Dec.{eqb}
-use lib.ListN.{length, getD, set}
+use lib.ListN.{length, set}
 use borrow.Author.Tests.{ne-eqb}
 use Rattle.rules.specs.Sets.{without, word}
 use Rattle.sets.specs.Mem.{or-neither}
-use Rattle.sets.specs.Loops.{forEach-keeps}
+use Rattle.sets.specs.Loops.{forEach-keeps, pick}
+use Rattle.sets.specs.Tables.{set-if}
 use Rattle.wires.specs.Wires.{sixteen, underWay}
 use Rattle.tables.specs.Tables.{linksOf, heardOf, busyOf, withHeard, withBusy}
-use Rattle.tables.proofs.Laws.{Same, same-trans, same-links, same-heard, same-busy, heard-heard, busy-busy, links-heard, busy-heard, links-busy, heard-busy, put-length}
+use Rattle.tables.proofs.Laws.{Same, same-trans, same-links, same-heard, same-busy, same-refl, both-links, both-heard, both-busy, busy-busy, links-busy, heard-busy, put-length}
 use Rattle.boxes.specs.declared.Departure.{Departure}
 use Rattle.mail.specs.declared.Letter.{Letter}
 use Rattle.mail.specs.declared.Counts.{Counts}
@@ -24,7 +25,6 @@ use Rattle.mail.specs.Gather.{wireOf, clearTo}
 use Rattle.turn.specs.declared.Carried.{Carried}
 use Rattle.turn.specs.Turn.{Turn, turnOf, lessOf, letter, postTo, lessBusy, moreBusy, ends, keptTables, nextTurn, putDef}
 use Rattle.turn.specs.Parts.{Kept, leftAfter, atAfter, movedAfter}
-use Rattle.turn.proofs.Laws.{pick}
 use Rattle.turn.proofs.Tables.{clear-same, post-same}
 
 -- ---- what goes out
@@ -61,16 +61,6 @@ nothing-goes o links p e =
 
 -- ---- what is carried on
 
--- what stands in a table already
-pub set-same : {A : Type 0} (t : List A) (k : ℕ) (d : A) → set t k (getD t k d) ≡ t
-set-same [] k d = refl
-set-same (x ∷ t) zero d = refl
-set-same {A} (x ∷ t) (suc k) d = ap (λ (u : List A). x ∷ u) (set-same t k d)
-
-pub set-if : (b : Bool) (t : List ℕ) (k x : ℕ) → cond b (set t k x) t ≡ set t k (cond b x (word t k))
-set-if true t k x = refl
-set-if false t k x = sym (set-same t k 0)
-
 -- the tables, as the code leaves them
 module _ (o : Departure) (links to : ℕ) (s : List ℕ) (size : length s ≡ 9264) (h : ℕ) (eh : h ≡ cond (ends o) 0 (o .heard)) (lh : h < 65536) (lt : to < 65536) where
   abbrev a : ℕ
@@ -79,11 +69,8 @@ module _ (o : Departure) (links to : ℕ) (s : List ℕ) (size : length s ≡ 92
   abbrev b : ℕ
   b = o .own % 16
 
-  abbrev u : List ℕ
-  u = withHeard s b h
-
   abbrev v : List ℕ
-  v = withBusy u a to
+  v = withBusy (withHeard s b h) a to
 
   low-a : a < 16
   low-a = omega arith
@@ -91,17 +78,14 @@ module _ (o : Departure) (links to : ℕ) (s : List ℕ) (size : length s ≡ 92
   low-b : b < 16
   low-b = omega arith
 
-  size-u : length u ≡ 9264
-  size-u = put-length s (16 + b) h ∙ size
-
   v-links : linksOf v ≡ linksOf s
-  v-links = links-busy u a to low-a ∙ links-heard s b h low-b
+  v-links = both-links s a b h to size low-a low-b lh lt
 
   v-heard : heardOf v ≡ set (heardOf s) b (cond (ends o) 0 (o .heard))
-  v-heard = heard-busy u a to low-a ∙ heard-heard s b h size low-b lh ∙ ap (set (heardOf s) b) eh
+  v-heard = both-heard s a b h to size low-a low-b lh lt ∙ ap (set (heardOf s) b) eh
 
   v-busy : busyOf v ≡ set (busyOf s) a to
-  v-busy = busy-busy u a to size-u low-a lt ∙ ap (λ (z : List ℕ). set z a to) (busy-heard s b h low-b)
+  v-busy = both-busy s a b h to size low-a low-b lh lt
 
   pub keeps-still : o .wakes || o .round ≡ false → Kept o links to s v
   unfolding keptTables moreBusy
@@ -115,7 +99,7 @@ module _ (o : Departure) (links to : ℕ) (s : List ℕ) (size : length s ≡ 92
         words = rw (e, ← eh, ← z);
         same = links-busy v b y low-b ∙ v-links;
         heard = heard-busy v b y low-b ∙ v-heard;
-        busy = rw e (busy-busy v b y (put-length u (32 + a) to ∙ size-u) low-b l ∙ ap (λ (k : ℕ). set (busyOf v) b k) z ∙ ap (λ (k : List ℕ). set k b (bitOr (word k b) links)) v-busy);
+        busy = rw e (busy-busy v b y (put-length (withHeard s b h) (32 + a) to ∙ put-length s (16 + b) h ∙ size) low-b l ∙ ap (λ (k : ℕ). set (busyOf v) b k) z ∙ ap (λ (k : List ℕ). set k b (bitOr (word k b) links)) v-busy);
       }
 
 module _ (s s₁ s₂ s₃ : List ℕ) (o : Departure) (c : Carried) (p : Counts) (links at-a to : ℕ) (ended : Bool)
@@ -130,7 +114,7 @@ module _ (s s₁ s₂ s₃ : List ℕ) (o : Departure) (c : Carried) (p : Counts
 
   -- what goes out leaves the tables
   same-out : Same s s₂
-  same-out = subst (Same s) (sym (ap (λ (q : Posted). q .store) e₂)) (same-trans s s₁ _ (subst (Same s) (sym e₁) (pick (Same s) ended (clear-same (o .own % 16) links 16 s) (λ k l. refl))) (post-same o links 16 _))
+  same-out = subst (Same s) (sym (ap (λ (q : Posted). q .store) e₂)) (same-trans s s₁ _ (subst (Same s) (sym e₁) (pick (Same s) ended (clear-same (o .own % 16) links 16 s) (same-refl s))) (post-same o links 16 _))
 
   sent-out : posted s₂ p ≡ (let b = o .own % 16 in let l = word (t .links) b in postTo o l 16 (record { store = cond (ends o) (clearTo b l 16 s) s; sent = c .sent; full = c .full }))
   unfolding ends

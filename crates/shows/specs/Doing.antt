@@ -13,7 +13,7 @@ use Rattle.rules.specs.Box.{Msg, notspt, neighbors, Box, Desk, started, startSe
 use Rattle.rules.specs.Hub.{Hub}
 use Rattle.rules.specs.Rest.{Table}
 use Rattle.sets.specs.Mem.{mem-empty, and-both, in-lt}
-use Rattle.sets.specs.Loops.{by-bool}
+use Rattle.sets.specs.Loops.{by-bool, forEach-empty}
 use Rattle.order.specs.Send.{left}
 use Rattle.wires.specs.Wires.{sixteen, underWay}
 use Rattle.boxes.specs.declared.Record.{Record}
@@ -21,7 +21,6 @@ use Rattle.boxes.specs.declared.Arrival.{Arrival}
 use Rattle.boxes.specs.declared.Departure.{Departure}
 use Rattle.boxes.specs.Record.{boxOf, recordOf, blank}
 use Rattle.boxes.specs.Step.{stepDef, woken, taken, saved, isStopped, originsOf, setsOf}
-use Rattle.boxes.specs.Tables.{forEach-none}
 use Rattle.boxes.specs.Laws.{woken-yes, woken-no, round-record, still-record, started-stops, start-sends, box-sends}
 use Rattle.mail.specs.Gather.{wireOf, clearTo}
 use Rattle.turn.specs.Turn.{ends}
@@ -105,7 +104,7 @@ module _ (t : List ℕ) (T : Table 16 t) (g : Going) (h : Hub) (S : Shows t g h)
 
     still-clear : cond (ends o) (clearTo b n 16 s) s ≡ s
     unfolding clearTo
-    still-clear = by-bool (ends o) (λ e. rw e (ap (λ (x : ℕ). clearTo b x 16 s) (still-ends e) ∙ forEach-none _ 16 s)) (λ e. rw e)
+    still-clear = by-bool (ends o) (λ e. rw e (ap (λ (x : ℕ). clearTo b x 16 s) (still-ends e) ∙ forEach-empty _ 16 s)) (λ e. rw e)
 
     still-none : (j : ℕ) → mem j n ≡ false → wakeSends r k b n j ≡ []
     unfolding startSends

@@ -8,6 +8,7 @@ use mathlib.Core.Logic.{_⊎_, inl, inr, ⊎-elim, _≢_}
 use native.Mathlib.Omega.{arith}
 use native.Mathlib.Decide.{ℕ-discrete}
 use lib.ListN.{length, length-map}
+use Rattle.sets.specs.Loops.{pick}
 use Rattle.rules.specs.Box.{Msg}
 use Rattle.rules.specs.Hub.{Wire}
 use Rattle.wires.specs.Wires.{sixteen, Waiting, waiting, Formed, Others}
@@ -17,7 +18,6 @@ use Rattle.tables.proofs.Laws.{put-waits, put-formed}
 use Rattle.boxes.specs.declared.Departure.{Departure}
 use Rattle.mail.specs.Gather.{wireOf}
 use Rattle.turn.specs.Turn.{keptTables, ends}
-use Rattle.turn.proofs.Laws.{pick}
 
 -- the words of a wire's queue and way
 abbrev pub wordsOf : List Msg → List ℕ

@@ -10,7 +10,7 @@ use lib.Bits.{bitOr}
 use lib.Dec.{eqb, ltb}
 use lib.ListN.{length, getD, drop, getD-replicate}
 use lib.Seq.{getD-drop, drop-drop}
-use borrow.Author.Tests.{lt-ltb, le-ltb, ltb-true, eqb-true, eq-eqb, ne-eqb}
+use borrow.Author.Tests.{lt-ltb, le-ltb, ltb-true, eqb-true, ne-eqb}
 use Rattle.rules.specs.Sets.{mem, word, least, any}
 use Rattle.rules.specs.Box.{Msg, asleep}
 use Rattle.rules.specs.Hub.{Hub, sleeping, deliver, act, run, drain, holds, sender, receiver}
@@ -32,6 +32,7 @@ use Rattle.boxes.specs.Record.{boxOf, recordOf, blank, box-record}
 use Rattle.mail.specs.Gather.{wireOf}
 use Rattle.turn.specs.declared.Pair.{Pair}
 use Rattle.turn.specs.Turn.{Turn, turnOf, Took, searched, nextPair, quiet, oneList, roundOf, tookRound, tookFirst, delivered, begun, tookPair, tookDef, heardAt, nextTurn, putDef}
+use Rattle.turns.proofs.Laws.{turns-over, turns-on, turn-pairs}
 use Rattle.turns.specs.Turns.{Going, turnDef, turnsDef, firstTurn, asleepRow, ownDef}
 use Rattle.shows.specs.Held.{length-words}
 use Rattle.shows.specs.Shows.{Shows, some}
@@ -130,24 +131,11 @@ module _ (t : List ℕ) (T : Table 16 t) (list : List ℕ) where
   unfolding turnDef
   turn-at g = put-at _ _ (g .turn)
 
-  turn-pairs : (g : Going) → (turnDef list g) .turn .pairs ≡ g .turn .pairs
-  unfolding turnDef
-  turn-pairs g = put-pairs _ _ (g .turn)
-
   turn-left : (g : Going) → (turnDef list g) .turn .left ≡ cond (ltb (g .turn .at) (g .turn .pairs) || (tookDef list (g .store) (g .turn)) .arrival .moved) (g .turn .left - 1) 0
   unfolding turnDef
   turn-left g =
       put-left _ _ (g .turn)
       ∙ ap (λ (x : Bool). cond (ltb (g .turn .at) (g .turn .pairs) || x) (g .turn .left - 1) 0) (passes (getD (g .row) ((tookDef list (g .store) (g .turn)) .arrival .own) blank) ((tookDef list (g .store) (g .turn)) .arrival) .moved)
-
-  turns-on : (n : ℕ) (g : Going) → g .turn .left ≢ 0 → turnsDef (suc n) list g ≡ turnsDef n list (turnDef list g)
-  unfolding turnsDef
-  turns-on n g z = rw (ne-eqb (g .turn .left) 0 z)
-
-  turns-end : (n : ℕ) (g : Going) → g .turn .left ≡ 0 → turnsDef n list g ≡ g
-  unfolding turnsDef
-  turns-end zero g e = refl
-  turns-end (suc n) g e = rw (eq-eqb (g .turn .left) 0 e)
 
   -- ---- the pairs of the list
 
@@ -182,7 +170,7 @@ module _ (t : List ℕ) (T : Table 16 t) (list : List ℕ) where
       let two : g₁ .turn .at * 2 ≡ g .turn .at * 2 + 2 = omega arith in
       let d₁ : drop (g₁ .turn .at * 2) list ≡ rest = ap (λ (n : ℕ). drop n list) two ∙ sym (drop-drop 2 (g .turn .at * 2) list) ∙ ap (drop 2) d in
       let R : Listed N B g₁ (length rest / 2) (run 16 20 t rest (act 16 20 t x y h)) =
-      listed N B rest g₁ (act 16 20 t x y h) S₁ (act-sound h x y hx Z) M′ d₁ (turn-pairs g ∙ p) (omega arith) (omega arith) in
+      listed N B rest g₁ (act 16 20 t x y h) S₁ (act-sound h x y hx Z) M′ d₁ (turn-pairs list g _ refl ∙ p) (omega arith) (omega arith) in
       record {
         going = R .going;
         shows = R .shows;
@@ -191,7 +179,7 @@ module _ (t : List ℕ) (T : Table 16 t) (list : List ℕ) where
         at = R .at;
         pairs = R .pairs;
         same = let s : length (x ∷ y ∷ rest) / 2 + B ≡ suc (length rest / 2 + B) = omega arith in
-            ap (λ (n : ℕ). turnsDef n list g) s ∙ turns-on (length rest / 2 + B) g (omega arith) ∙ R .same;
+            ap (λ (n : ℕ). turnsDef n list g) s ∙ turns-on (length rest / 2 + B) list g _ (omega arith) refl ∙ R .same;
       }
     where
       zero-more : g .turn .at * 2 + 0 ≡ g .turn .at * 2
@@ -287,14 +275,14 @@ module _ (t : List ℕ) (T : Table 16 t) (list : List ℕ) where
   unfolding drain turnsDef
   drained zero g h S Z d l = S
   drained (suc B) g h S Z d l =
-      rw (turns-on B g (omega arith)) (by-bool (ltb (sender 16 h) 16)
+      rw (turns-on B list g _ (omega arith) refl) (by-bool (ltb (sender 16 h) 16)
       (λ e.
       let k : sender 16 h < 16 = ltb-true _ _ e in
       let g₁ : Going = turnDef list g in
-      let d₁ : ltb (g₁ .turn .at) (g₁ .turn .pairs) ≡ false = ap₂ ltb (turn-at g ∙ ap (λ (b : Bool). cond b (g .turn .at + 1) (g .turn .at)) d) (turn-pairs g) ∙ d in
+      let d₁ : ltb (g₁ .turn .at) (g₁ .turn .pairs) ≡ false = ap₂ ltb (turn-at g ∙ ap (λ (b : Bool). cond b (g .turn .at + 1) (g .turn .at)) d) (turn-pairs list g _ refl) ∙ d in
       let l₁ : g₁ .turn .left ≡ B = turn-left g ∙ ap₂ (λ (x y : Bool). cond (x || y) (g .turn .left - 1) 0) d (moved-one g h S Z d k) ∙ omega arith in
       rw e (drained B g₁ (deliver 16 20 t (sender 16 h) (receiver 16 h) h) (drained-one g h S Z d k) (deliver-sound 16 t T 20 (omega arith) h _ _ Z) d₁ l₁))
-      (λ e. rw (e, turns-end B (turnDef list g) (left-none g h S Z d e)) (rests-so g h S Z d e)))
+      (λ e. rw (e, turns-over B list (turnDef list g) (left-none g h S Z d e)) (rests-so g h S Z d e)))
 
 -- ---- from a sleeping hub
 

@@ -6,11 +6,11 @@ use native.Mathlib.Decide.{ℕ-discrete}
 use native.Mathlib.Omega.{arith}
 use mathlib.Core.Path.{_≡_, refl, sym, ap, ap₂, _∙_}
 use mathlib.Core.Logic.{_≢_}
-use mathlib.Core.Bool.{Bool, true, false, cond}
 use mathlib.Core.List.{List, [], _∷_}
 use lib.Dec.{eqb}
 use lib.ListN.{length, set, length-set, length-replicate, getD-replicate}
 use lib.Seq.{getD-set-same, getD-set-other, ext-getD}
+use Rattle.sets.specs.Loops.{pick}
 use Rattle.rules.specs.Sets.{word}
 use Rattle.wires.specs.Wires.{sixteen, place, Formed, queued, underWay, waiting, none, hasRoom, pushed, arrived, skipped, taken, cleared}
 use Rattle.wires.proofs.Laws.{waiting-agree, none-law, sixteen-proper}
@@ -49,6 +49,10 @@ pub entry-other : (s : List ℕ) (k j x : ℕ) → j ≢ k → entryOf (withEntr
 unfolding entryOf withEntry
 entry-other s k j x ne = ap (λ (y : ℕ). y % 65536) (getD-set-other s k j x 0 ne)
 
+pub put-length : (s : List ℕ) (k x : ℕ) → length (withEntry s k x) ≡ length s
+unfolding withEntry
+put-length s k x = length-set s k x
+
 -- an entry of the table is stored
 table-put : (s : List ℕ) (k n b x : ℕ) → b < n → k + n ≤ length s → x < 65536 → entries (withEntry s (k + b) x) k n ≡ set (entries s k n) b x
 unfolding entries
@@ -64,17 +68,17 @@ table-other : (s : List ℕ) (k n j x : ℕ) → ((b : ℕ) → b < n → k + b 
 table-other s k n j x f = entries-agree s _ k n (λ b l. entry-other s j (k + b) x (f b l))
 
 module _ (s : List ℕ) (k x : ℕ) (size : length s ≡ 9264) (l : k < 16) (m : x < 65536) where
-  pub heard-heard : heardOf (withHeard s k x) ≡ set (heardOf s) k x
+  heard-heard : heardOf (withHeard s k x) ≡ set (heardOf s) k x
   heard-heard = table-put s 16 16 k x l (omega arith) m
 
   pub busy-busy : busyOf (withBusy s k x) ≡ set (busyOf s) k x
   busy-busy = table-put s 32 16 k x l (omega arith) m
 
 module _ (s : List ℕ) (k x : ℕ) (l : k < 16) where
-  pub links-heard : linksOf (withHeard s k x) ≡ linksOf s
+  links-heard : linksOf (withHeard s k x) ≡ linksOf s
   links-heard = table-other s 0 16 (16 + k) x (λ b h. omega arith)
 
-  pub busy-heard : busyOf (withHeard s k x) ≡ busyOf s
+  busy-heard : busyOf (withHeard s k x) ≡ busyOf s
   busy-heard = table-other s 32 16 (16 + k) x (λ b h. omega arith)
 
   pub links-busy : linksOf (withBusy s k x) ≡ linksOf s
@@ -83,15 +87,25 @@ module _ (s : List ℕ) (k x : ℕ) (l : k < 16) where
   pub heard-busy : heardOf (withBusy s k x) ≡ heardOf s
   heard-busy = table-other s 16 16 (32 + k) x (λ b h. omega arith)
 
+-- the two that every turn stores: what box b has heard, then to whom box a has messages under way
+module _ (s : List ℕ) (a b h to : ℕ) (size : length s ≡ 9264) (la : a < 16) (lb : b < 16) (lh : h < 65536) (lt : to < 65536) where
+  abbrev both : List ℕ
+  both = withBusy (withHeard s b h) a to
+
+  pub both-links : linksOf both ≡ linksOf s
+  both-links = links-busy (withHeard s b h) a to la ∙ links-heard s b h lb
+
+  pub both-heard : heardOf both ≡ set (heardOf s) b h
+  both-heard = heard-busy (withHeard s b h) a to la ∙ heard-heard s b h size lb lh
+
+  pub both-busy : busyOf both ≡ set (busyOf s) a to
+  both-busy = busy-busy (withHeard s b h) a to (put-length s (16 + b) h ∙ size) la lt ∙ ap (λ (z : List ℕ). set z a to) (busy-heard s b h lb)
+
 -- ---- the wires after a store of an entry
 
 pub put-waits : (s : List ℕ) (k x i : ℕ) → k < 48 → waiting sixteen (withEntry s k x) i ≡ waiting sixteen s i
 unfolding withEntry
 put-waits s k x i l = waiting-agree sixteen sixteen-proper s (set s k x) i (λ p _. getD-set-other s k (place sixteen i p) x 0 (omega arith))
-
-pub put-length : (s : List ℕ) (k x : ℕ) → length (withEntry s k x) ≡ length s
-unfolding withEntry
-put-length s k x = length-set s k x
 
 pub put-formed : (s : List ℕ) (k x : ℕ) → k < 48 → Formed sixteen s → Formed sixteen (withEntry s k x)
 put-formed s k x l f = record { size = put-length s k x ∙ f .size; room = λ i. rw (put-waits s k x i l) (f .room i) }
@@ -101,6 +115,9 @@ put-formed s k x l f = record { size = put-length s k x ∙ f .size; room = λ i
 -- the entries of two stores are the same
 abbrev pub Same : List ℕ → List ℕ → Type 0
 Same s s′ = (k : ℕ) → k < 48 → entryOf s′ k ≡ entryOf s k
+
+pub same-refl : (s : List ℕ) → Same s s
+same-refl s k l = refl
 
 pub same-trans : (s s′ s″ : List ℕ) → Same s s′ → Same s′ s″ → Same s s″
 same-trans s s′ s″ f g k l = g k l ∙ f k l
@@ -121,26 +138,22 @@ stored s i p v k l = ap (λ (y : ℕ). y % 65536) (getD-set-other s (place sixte
 stored-twice : (s : List ℕ) (i p v q u : ℕ) → Same s (set (set s (place sixteen i p) v) (place sixteen i q) u)
 stored-twice s i p v q u = same-trans s _ _ (stored s i p v) (stored (set s (place sixteen i p) v) i q u)
 
-either : (b : Bool) (s x y : List ℕ) → Same s x → Same s y → Same s (cond b x y)
-either true s x y f g = f
-either false s x y f g = g
-
 pub pushed-same : (s : List ℕ) (i x : ℕ) → Same s (pushed sixteen s i x)
 unfolding pushed
-pushed-same s i x = either (hasRoom sixteen s i) s _ _ (stored-twice s i _ x _ _) (λ k l. refl)
+pushed-same s i x = pick (Same s) (hasRoom sixteen s i) (stored-twice s i _ x _ _) (same-refl s)
 
 pub arrived-same : (s : List ℕ) (i : ℕ) → Same s (arrived sixteen s i)
 unfolding arrived
-arrived-same s i = either (eqb (underWay sixteen s i) 0) s _ _ (λ k l. refl) (stored-twice s i _ _ _ _)
+arrived-same s i = pick (Same s) (eqb (underWay sixteen s i) 0) (same-refl s) (stored-twice s i _ _ _ _)
 
 pub skipped-same : (s : List ℕ) (i : ℕ) → Same s (skipped sixteen s i)
 unfolding skipped
 skipped-same s i =
-    either (eqb (queued sixteen s i) 0) s _ _ (either (eqb (underWay sixteen s i) 0) s _ _ (λ k l. refl) (stored-twice s i _ _ _ _)) (λ k l. refl)
+    pick (Same s) (eqb (queued sixteen s i) 0) (pick (Same s) (eqb (underWay sixteen s i) 0) (same-refl s) (stored-twice s i _ _ _ _)) (same-refl s)
 
 pub taken-same : (s : List ℕ) (i : ℕ) → Same s (taken sixteen s i)
 unfolding taken
-taken-same s i = either (eqb (queued sixteen s i) 0) s _ _ (λ k l. refl) (stored-twice s i _ _ _ _)
+taken-same s i = pick (Same s) (eqb (queued sixteen s i) 0) (same-refl s) (stored-twice s i _ _ _ _)
 
 pub cleared-same : (s : List ℕ) (i : ℕ) → Same s (cleared sixteen s i)
 unfolding cleared

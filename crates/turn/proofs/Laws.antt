@@ -12,7 +12,7 @@ use lib.ListN.{set, replicate}
 use borrow.Author.Tests.{lt-ltb, le-ltb, eq-eqb, ne-eqb}
 use Rattle.rules.specs.Sets.{mem, word, least, any}
 use Rattle.sets.specs.Mem.{mem-empty}
-use Rattle.sets.specs.Loops.{any-in, any-out, by-bool, least-is, least-none}
+use Rattle.sets.specs.Loops.{any-in, any-out, by-bool, least-is, least-none, pick}
 use Rattle.wires.specs.Words.{isList, originOf, setOf}
 use Rattle.wires.specs.Wires.{sixteen, queued, underWay, arrived, oldest, skipped, taken}
 use Rattle.boxes.specs.declared.Arrival.{Arrival}
@@ -31,11 +31,6 @@ picked-yes b c x y z e t h = rw (← e, t) h
 
 pub picked-else : {A : Type 0} (b c : Bool) (x y z : A) → b ≡ c → b ≡ false → z ≡ y → z ≡ cond c x y
 picked-else b c x y z e f h = rw (← e, f) h
-
--- a property of both arms
-pub pick : {A : Type 0} (P : A → Type 0) (b : Bool) {x y : A} → P x → P y → P (cond b x y)
-pick P true p q = p
-pick P false p q = q
 
 -- ---- the search
 

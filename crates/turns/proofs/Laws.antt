@@ -7,12 +7,12 @@ use mathlib.Core.List.{List}
 use lib.Dec.{eqb, ltb}
 use lib.ListN.{length}
 use borrow.Author.Tests.{ne-eqb}
+use Rattle.sets.specs.Loops.{pick}
 use Rattle.tables.specs.Tables.{laid}
 use Rattle.boxes.specs.declared.Record.{Record}
 use Rattle.boxes.specs.declared.Departure.{Departure}
 use Rattle.turn.specs.declared.Carried.{Carried}
 use Rattle.turn.specs.Turn.{Turn, nextTurn, putDef}
-use Rattle.turn.proofs.Laws.{pick}
 use Rattle.turns.specs.declared.Ran.{Ran}
 use Rattle.turns.specs.Turns.{Going, turnDef, turnsDef, firstTurn, asleepRow, ownDef}
 use Rattle.turns.specs.Parts.{goingWith, ran, ranOf}

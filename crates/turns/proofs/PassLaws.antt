@@ -8,9 +8,11 @@ use mathlib.Core.Bool.{true, false, _&&_, _||_, and-false}
 use mathlib.Core.List.{List}
 use lib.Dec.{eqb, ltb}
 use lib.ListN.{getD, set}
+use lib.Seq.{set-getD}
 use borrow.Author.Tests.{eqb-true, ltb-true}
 use Rattle.rules.specs.Sets.{mem, without, word, least, any}
-use Rattle.sets.specs.Loops.{by-bool, least-hit, least-ok, any-out}
+use Rattle.sets.specs.Loops.{by-bool, least-hit, least-ok, any-out, pick}
+use Rattle.sets.specs.Tables.{set-if}
 use Rattle.wires.specs.Wires.{sixteen, underWay}
 use Rattle.boxes.specs.declared.Record.{Record}
 use Rattle.boxes.specs.declared.Arrival.{Arrival}
@@ -27,9 +29,8 @@ use Rattle.turn.specs.Turn.{Turn, turnOf, lessOf, keptTables, searched, nextPai
 use Rattle.turn.specs.Parts.{took, receiverOf, quietTo}
 use Rattle.pass.specs.Pass.{Glanced, glancePair, kept, carriedOn, glanceAt, quietTurn, quietStore, passOne, passTo, passAll}
 use Rattle.tables.proofs.Laws.{Same}
-use Rattle.turn.proofs.Laws.{pick}
 use Rattle.turn.proofs.Tables.{turn-same, took-same}
-use Rattle.sends.proofs.Laws.{nothing-goes, set-same, set-if}
+use Rattle.sends.proofs.Laws.{nothing-goes}
 use Rattle.pass.proofs.Laws.{pair-took, pass-less, left-some}
 use Rattle.turns.specs.Turns.{Going, turnDef, turnsDef}
 use Rattle.turns.specs.Parts.{going, goingWith, onDef}
@@ -127,7 +128,7 @@ module _ (row : List Record) (c : Turn) (p : Pair) (s : List ℕ) (k : Glance) (
 
   from-quiet : turnFrom row c (took s come) ≡ going row (quietStore c p k s) (quietTurn c p k s)
   unfolding turnFrom
-  from-quiet = rw (stays, goes, set-same)
+  from-quiet = rw (stays, goes, set-getD)
 
 pub pass-turn : (list : List ℕ) (row : List Record) (q : Put) → glanceAt list q .glance .quiet ≡ true
     → turnDef list (going row (q .store) (q .turn)) ≡ going row (passOne list q .store) (passOne list q .turn)

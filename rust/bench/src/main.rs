@@ -108,26 +108,6 @@ impl Case {
         }
     }
 
-    /// What the library's code answers as plain Rust.
-    fn plain(&self, board: &mut [u16]) -> u32 {
-        let budget = derowlas::BUDGET;
-        match &self.call {
-            Call::Drain { starts } => plain::hub::drain(&self.sheet, *starts, budget, board),
-            Call::Run { list } => plain::hub::run(&self.sheet, list, board),
-        }
-        .moved
-    }
-
-    /// What it answers with each record rewritten where it lies.
-    fn in_place(&self, board: &mut [u16]) -> u32 {
-        let budget = derowlas::BUDGET;
-        match &self.call {
-            Call::Drain { starts } => in_place::hub::drain(&self.sheet, *starts, budget, board),
-            Call::Run { list } => in_place::hub::run(&self.sheet, list, board),
-        }
-        .moved
-    }
-
     /// What a time is divided by: a drain's messages, a list's pairs.
     fn units(&self, moved: u32) -> f64 {
         match &self.call {
@@ -153,11 +133,23 @@ fn median(mut all: Vec<f64>) -> f64 {
 
 type Program = fn(&Case, &mut [u16]) -> u32;
 
+/// What a copy of the library's code answers: each has types of its own.
+macro_rules! moved_by {
+    ($code:ident) => {
+        |case, board| match &case.call {
+            Call::Drain { starts } => {
+                $code::hub::drain(&case.sheet, *starts, derowlas::BUDGET, board).moved
+            }
+            Call::Run { list } => $code::hub::run(&case.sheet, list, board).moved,
+        }
+    };
+}
+
 /// The programs that are held against the independent one, the library first.
 const PROGRAMS: [(&str, Program); 3] = [
     ("proved", Case::proved),
-    ("in plain Rust", Case::plain),
-    ("record in place", Case::in_place),
+    ("in plain Rust", moved_by!(plain)),
+    ("record in place", moved_by!(in_place)),
 ];
 
 /// Rounds of a program and of the independent one, in nanoseconds a call.

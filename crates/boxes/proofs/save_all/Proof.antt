@@ -6,8 +6,9 @@ use Prim.Native.Nat.{_≤_, _-_}
 use mathlib.Core.Path.{_≡_, sym}
 use lib.ListN.{set}
 use Rattle.rules.specs.Sets.{word, forEach}
+use Rattle.sets.specs.Loops.{forEach-empty}
 use Rattle.boxes.specs.Step.{saveAll}
-use Rattle.boxes.specs.Tables.{forEach-none, save-next}
+use Rattle.boxes.specs.Tables.{save-next}
 use Rattle.boxes.proofs.save_all.Statement.{statement}
 use Rattle.boxes.proofs.save_all.Tie as tie
 
@@ -19,7 +20,7 @@ abbrev μ-loop : tie.MeasureT-loop
 
 returns : tie.Need-returns Inv-loop μ-loop
 unfolding saveAll
-returns c = rw (c .if1 .taken) (sym (forEach-none _ 16 _))
+returns c = rw (c .if1 .taken) (sym (forEach-empty _ 16 _))
 
 loop-holds : tie.Need-loop-holds Inv-loop μ-loop
 unfolding forEach
