@@ -1,5 +1,7 @@
 // The board, written from the row of records. Document 01, "The tables at rest": "66 for each box: state (0 asleep, 1 awake, 2 stopped), HOP,
 // then Nodes(0..15), In_SPT(0..15), Not_SPT(0..15), Neighbors(0..15)". A sleeping box's record is all zero, and so its block is.
+#![tactic(auto)]
+
 ghost use Rattle.std.specs.Prelude.{◌≡◌, ◌+◌, ◌*◌, ◌≤◌, ◌++◌, length, drop, get_or};
 ghost use Rattle.std.proofs.lemmas.List.Edits.{sets};
 ghost use Rattle.rules.specs.Sets.{each};

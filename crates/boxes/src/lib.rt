@@ -1,5 +1,7 @@
 // One box of the hub: its record, its start, a round, the lists it saves. Document 01, "The steps of a box". A box sees its own number and link set,
 // its record, and what has come for it; the wires are another crate's.
+#![tactic(auto)]
+
 ghost use Rattle.std.specs.Prelude.{◌≡◌, ◌+◌, ◌%◌, ◌<◌, cond, eqb};
 ghost use Rattle.rules.specs.Sets.{mem, word, union};
 ghost use Rattle.rules.specs.Box.{asleep, started, take_sets, before};

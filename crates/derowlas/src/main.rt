@@ -1,6 +1,8 @@
 // The printing program. Document 01, end of "Sample hubs": reads a sheet from standard input, starts every box, drains, and prints the routes of
 // each box, or the refusal. What it reads and writes no contract can say; the bytes that it keeps and the text that it prints are the crates tail's
 // and text's, whose contracts say all of it. That the text of what is kept is the text of all that was read is `chunks_print` of text.
+#![tactic(auto)]
+
 ghost use Rattle.std.specs.Prelude.{◌≤◌};
 
 use libc::{STDERR_FILENO, STDIN_FILENO, STDOUT_FILENO};

@@ -2,6 +2,8 @@
 // call that it makes: the whole answer and every lent word, for any input. No call has a `requires`, since nothing checks a caller that is not Rattle.
 // A slice is passed as a pointer and a length, and an answer is returned by value; include/derowlas.h declares the calls so, and says what a caller
 // owes (no NULL, no overlap).
+#![tactic(auto)]
+
 ghost use Rattle.std.specs.Prelude.{◌≡◌};
 ghost use Rattle.rules.specs.Calls.{read_call, write_call, allowance_call, run_call, drain_call};
 ghost use Rattle.reading.specs.Answers.{read_of, allowed_of};

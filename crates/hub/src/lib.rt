@@ -1,4 +1,6 @@
 // The hub's two calls: the run of a list of deliveries, and the drain. Document 01, "Lists and the drain" and "Numbers given when the hub refuses".
+#![tactic(auto)]
+
 ghost use Rattle.std.specs.Prelude.{◌≡◌, ◌≤◌, length};
 ghost use Rattle.rules.specs.Hub.{run, drain, sleeping};
 ghost use Rattle.rules.specs.Rest.{Table};

@@ -1,4 +1,6 @@
 // The lines of the printing program's text, put into a lent buffer. Document 01, end of "Sample hubs".
+#![tactic(auto)]
+
 ghost use Rattle.std.specs.Prelude.{◌≡◌, ◌++◌};
 ghost use Rattle.lines.specs.Words.{word_of, word_line};
 ghost use Rattle.lines.specs.Lines.{field, heading, line, refusal};

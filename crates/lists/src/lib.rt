@@ -1,4 +1,6 @@
 // What a list and a start set are refused with, and a start set as a list. Document 01, "Lists and the drain" and "Numbers given when the hub refuses".
+#![tactic(auto)]
+
 ghost use Rattle.std.specs.Prelude.{◌≡◌, ◌+◌, ◌*◌, ◌^◌, ◌<◌, ◌≤◌, cond, [], ◌∷◌, ◌++◌, take};
 ghost use Rattle.rules.specs.Sets.{mem};
 ghost use Rattle.lists.specs.Checks.{pair_number, list_number, start_pairs};

@@ -1,4 +1,6 @@
 // One turn's messages, between a box and the store of waiting messages: what goes out, and what has come. Document 01, "The steps of a box".
+#![tactic(auto)]
+
 ghost use Rattle.std.specs.Prelude.{◌≡◌, ℕ, ◌+◌, ◌*◌, ◌^◌, ◌<◌, List, length, if◌then◌else◌, bit_or, nat_lt};
 ghost use Rattle.wires.specs.Wires.{sixteen, queued};
 ghost use Rattle.mail.specs.Post.{post_word, post_lists, post_if};

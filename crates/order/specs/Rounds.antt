@@ -4,7 +4,8 @@ use Rattle.std.specs.Prelude.{◌≡◌, Bool, true, false, ◌&&◌, ◌⊎◌,
 use Rattle.std.proofs.Math.Path.{refl}
 use Rattle.std.proofs.Common.{sym, ap, ◌∙◌, true≢false, pow_pos}
 use Rattle.std.proofs.Math.Bool.{not}
-use Rattle.std.proofs.Math.Logic.{inl, inr, ⊎_elim, Dec·and, Dec·not}
+use Rattle.std.proofs.Math.Logic.{inl, inr, ⊎_elim}
+use Rattle.std.proofs.Math.Logic.Dec.{and as dec_and, not as dec_not}
 use native.Mathlib.Omega.{arith}
 use Rattle.std.proofs.Math.Decide.{dec_le, dec_lt, ℕ_discrete}
 use borrow.Author.Tests.{not-true, eqb-true, eq-eqb, ne_eqb, eqb-false}
@@ -85,7 +86,7 @@ module _ (w : ℕ) (t : List ℕ) where
 
   -- In_SPT(j) at i: what has come over j from at most c hops
   unfoldable pub in_cut : ℕ → ℕ → ℕ → ℕ
-  in_cut i j c = sel w (λ k. Dec·and (ℕ_discrete (from w t i k) j) (dec_le (hops w t i k) c))
+  in_cut i j c = sel w (λ k. dec_and (ℕ_discrete (from w t i k) j) (dec_le (hops w t i k) c))
 
   pub in_cut_is : (i j c : ℕ) → Is w (in_cut i j c) (λ k. (from w t i k ≡ j) × (hops w t i k ≤ c))
   unfolding in_cut
@@ -93,14 +94,14 @@ module _ (w : ℕ) (t : List ℕ) where
 
   -- what of Nodes(h + 1) has come over the links below n, and what comes over n itself
   unfoldable pub cur_at : ℕ → ℕ → ℕ → ℕ
-  cur_at i h n = sel w (λ k. Dec·and (ℕ_discrete (hops w t i k) (suc h)) (dec_lt (from w t i k) n))
+  cur_at i h n = sel w (λ k. dec_and (ℕ_discrete (hops w t i k) (suc h)) (dec_lt (from w t i k) n))
 
   pub cur_at_is : (i h n : ℕ) → Is w (cur_at i h n) (λ k. (hops w t i k ≡ suc h) × (from w t i k < n))
   unfolding cur_at
   cur_at_is i h n = sel_is w _
 
   unfoldable pub fresh : ℕ → ℕ → ℕ → ℕ
-  fresh i n h = sel w (λ k. Dec·and (ℕ_discrete (hops w t i k) (suc h)) (ℕ_discrete (from w t i k) n))
+  fresh i n h = sel w (λ k. dec_and (ℕ_discrete (hops w t i k) (suc h)) (ℕ_discrete (from w t i k) n))
 
   pub fresh_is : (i n h : ℕ) → Is w (fresh i n h) (λ k. (hops w t i k ≡ suc h) × (from w t i k ≡ n))
   unfolding fresh
@@ -108,7 +109,7 @@ module _ (w : ℕ) (t : List ℕ) where
 
   -- Not_SPT(j) at i after round h: what j has said in the rounds up to h
   unfoldable pub heard : ℕ → ℕ → ℕ → ℕ
-  heard i j h = sel w (λ k. Dec·and (dec_le (hops w t j k) h) (Dec·not (ℕ_discrete (from w t j k) i)))
+  heard i j h = sel w (λ k. dec_and (dec_le (hops w t j k) h) (dec_not (ℕ_discrete (from w t j k) i)))
 
   pub heard_is : (i j h : ℕ) → Is w (heard i j h) (λ k. (hops w t j k ≤ h) × (¬ (from w t j k ≡ i)))
   unfolding heard

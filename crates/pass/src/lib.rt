@@ -1,4 +1,6 @@
 // Turns that touch no record, one after the other with no step among them. Document 01, "Lists and the drain".
+#![tactic(auto)]
+
 ghost use Rattle.std.specs.Prelude.{◌≡◌, ◌*◌, ◌<◌, ◌≤◌, length};
 ghost use Rattle.turn.specs.Turn.{turn_of, put_def};
 ghost use Rattle.pass.specs.Pass.{seen_as, glanced, glance_first, glance_to, glance_pair, carried_on, pass_all};

@@ -1,5 +1,7 @@
 // The calls that read a link sheet: reading it into a lent table, and the allowance. Both answer from what `sheet::parse` gives. Document 01, "The link
 // sheet" and "Numbers given when the hub refuses".
+#![tactic(auto)]
+
 ghost use Rattle.std.specs.Prelude.{◌≡◌, length};
 ghost use Rattle.rules.specs.Calls.{read_call, allowance_call};
 ghost use Rattle.reading.specs.Answers.{read_of, allowed_of};

@@ -1,4 +1,6 @@
 // The boxes' records where they lie: one lent record, and the row of them. Document 01, "The tables at rest".
+#![tactic(auto)]
+
 ghost use Rattle.std.specs.Prelude.{◌≡◌, ◌<◌, length, set, get_or};
 ghost use Rattle.boxes.specs.Record.{blank};
 ghost use Rattle.boxes.specs.Step.{step_def};

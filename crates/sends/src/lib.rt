@@ -1,4 +1,6 @@
 // The last part of a turn, after the box's own step: what goes out, and what is carried on. Document 01, "Lists and the drain".
+#![tactic(auto)]
+
 ghost use Rattle.std.specs.Prelude.{◌≡◌, ◌^◌, ◌<◌, ◌≤◌, ◌&&◌, ◌||◌, length, if◌then◌else◌, bit_or};
 ghost use Rattle.rules.specs.Sets.{without};
 ghost use Rattle.mail.specs.Gather.{clear_to};

@@ -1,4 +1,6 @@
 // The link sheet, parsed: `parse` gives what is on it, or why it is refused. Document 01, "The link sheet" and "Numbers given when the hub refuses".
+#![tactic(auto)]
+
 ghost use Rattle.std.specs.Prelude.{◌≡◌, ◌<◌, ◌≤◌, length, get_or, replicate};
 ghost use Rattle.rules.specs.Sets.{join_at};
 ghost use Rattle.rules.specs.Sheet.{link, pairs};

@@ -1,6 +1,6 @@
 -- The table of an accepted sheet links two boxes exactly where one of the sheet's pairs names them. Assumes nothing.
 use Rattle.std.specs.Prelude.{ℕ, zero, suc, ◌+◌, ◌-◌, ◌*◌, ◌<◌, ◌≡◌, refl, List, [], ◌∷◌, ◌⊎◌, ◌↔◌, drop}
-use Rattle.std.proofs.Common.{sym, ap, ◌∙◌, inl, inr, ⊎_elim}
+use Rattle.std.proofs.Common.{sym, ap, subst, ◌∙◌, inl, inr, ⊎_elim}
 use native.Mathlib.Omega.{arith}
 use Rattle.std.proofs.Math.ListN.{length}
 use Rattle.std.proofs.Math.Seq.{get_or-take, get_or-drop}
@@ -35,8 +35,9 @@ flat_in [] k h = absurd (omega arith)
 flat_in (q ∷ l) zero h = inl refl
 flat_in (q ∷ l) (suc k) h =
     let e : 2 * suc k ≡ suc (suc (2 * k)) = omega arith in
-    let f : suc (suc (2 * k)) + 1 ≡ suc (suc (2 * k + 1)) = omega arith in
-    inr (rw (e, f) (flat_in l k (omega arith)))
+    let f : 2 * suc k + 1 ≡ suc (suc (2 * k + 1)) = omega arith in
+    let F : ℕ → ℕ → Type 0 = λ x y. In (pair (word (flat (q ∷ l)) x) (word (flat (q ∷ l)) y)) l in
+    inr (subst (λ x. F x (2 * suc k + 1)) (sym e) (subst (F (suc (suc (2 * k)))) (sym f) (flat_in l k (omega arith))))
 
 -- ---- the bytes of pair k of an accepted sheet
 

@@ -1,5 +1,7 @@
 // The three tables that a run carries from turn to turn, by box: its link set, the links whose queue holds a message, and the boxes to which it has messages
 // under way. They stand in the words of the store before the wires', so that they are lent with it and never copied.
+#![tactic(auto)]
+
 ghost use Rattle.std.specs.Prelude.{◌≡◌, ◌<◌, length};
 ghost use Rattle.rules.specs.Sets.{word};
 ghost use Rattle.tables.specs.Tables.{entry_of, with_entry, links_of, heard_of, busy_of, with_heard, with_busy, Entered, laid};

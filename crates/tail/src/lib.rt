@@ -1,5 +1,7 @@
 // The last 244 bytes of an input of any length. Document 01, "Sample hubs": "Of a longer input only the last 244 bytes need be kept, since B is
 // never more."
+#![tactic(auto)]
+
 ghost use Rattle.std.specs.Prelude.{◌≡◌, ◌+◌, ◌-◌, ◌<◌, ◌≤◌, [], ◌++◌, length, get_or};
 ghost use Rattle.tail.specs.Last.{held, Keeps};
 

@@ -1,4 +1,6 @@
 // The text of the printing program, put into a lent buffer. Document 01, end of "Sample hubs".
+#![tactic(auto)]
+
 ghost use Rattle.std.specs.Prelude.{◌≡◌, ◌+◌, ◌-◌, ◌*◌, ◌^◌, ◌<◌, ◌≤◌, length, take};
 ghost use Rattle.rules.specs.Sets.{each};
 ghost use Rattle.lines.specs.Put.{Room, Put};

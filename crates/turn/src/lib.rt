@@ -1,4 +1,6 @@
 // The first part of a turn, before the box's own step: the next pair, and what it brings. Document 01, "Lists and the drain".
+#![tactic(auto)]
+
 ghost use Rattle.std.specs.Prelude.{◌≡◌, ◌*◌, ◌<◌, ◌≤◌, not, ◌&&◌, length};
 ghost use Rattle.tables.specs.Tables.{busy_of};
 ghost use Rattle.turn.specs.Turn.{turn_of, searched, pair_of, took_pair, took_def};

@@ -1,4 +1,6 @@
 // A run of the hub, turn by turn: the row and the store lent to each turn, the loop, and the owner of both. Document 01, "Lists and the drain".
+#![tactic(auto)]
+
 ghost use Rattle.std.specs.Prelude.{◌≡◌, ◌+◌, ◌*◌, ◌/◌, ◌<◌, ◌≤◌, length};
 ghost use Rattle.tables.specs.Tables.{laid};
 ghost use Rattle.turns.specs.Turns.{turns_def, first_turn, asleep_row, own_def};

@@ -3,6 +3,8 @@
 // the number under way, and one word unused. The queue is the older part of the ring, what is under way the younger, so a delivery copies no message.
 // The first 48 words are no wire's: crate tables has them.
 // Counts and places are read % 32, so that no word of the store can lead out of a wire's own part.
+#![tactic(auto)]
+
 ghost use Rattle.std.specs.Prelude.{◌≡◌, ◌<◌, length};
 ghost use Rattle.rules.specs.Box.{notspt, neighbors};
 ghost use Rattle.wires.specs.Words.{word_of, is_list, origin_of, set_of};

@@ -1,4 +1,6 @@
 // The link sheet: writing it. Document 01, "The link sheet" and "Numbers given when the hub refuses".
+#![tactic(auto)]
+
 ghost use Rattle.std.specs.Prelude.{◌≡◌, ◌+◌, ◌*◌, ◌<◌, ◌≤◌, [], ◌∷◌, length};
 ghost use Rattle.std.proofs.lemmas.List.Edits.{sets};
 ghost use Rattle.rules.specs.Sets.{mem, word, all, count};
