@@ -1,0 +1,17 @@
+pub mod Save
+pub mod Take
+pub mod Round
+pub mod Work
+pub mod Begin
+pub mod Settle
+pub mod Kept
+pub mod Moves
+pub mod Reached
+pub mod Rest
+pub mod End
+pub mod Lists
+pub mod Groups
+pub mod Sent
+pub mod Drain
+pub mod Started
+pub mod Promises
