@@ -10,7 +10,7 @@ use Rattle.std.proofs.lemmas.List.{length-replicate, get_or-replicate}
 use Rattle.std.proofs.Math.Seq.{get_or-set_same, get_or-set_other}
 use Rattle.std.proofs.lemmas.Bool.{eqb-false}
 use Rattle.rules.specs.Sets.{mem, word}
-use Rattle.rules.specs.Box.{Msg, neighbors, Box, Desk, started, start_sends}
+use Rattle.rules.specs.Box.{Msg, Box, Desk, started, start_sends}
 use Rattle.rules.specs.Rest.{Table, hops}
 use Rattle.sets.specs.Loops.{by_bool, some_member}
 use Rattle.hops.specs.Hops.{hops_self, hops_zero, hops_near}

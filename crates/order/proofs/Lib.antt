@@ -4,6 +4,7 @@ pub mod Round
 pub mod Work
 pub mod Begin
 pub mod Settle
+pub mod Settled
 pub mod Kept
 pub mod Moves
 pub mod Reached

@@ -19,7 +19,8 @@ use Rattle.order.proofs.Work.{Done, received}
 use Rattle.order.proofs.Begin.{begins}
 use Rattle.order.proofs.Kept.{popped_boxes, start_wakes}
 use Rattle.order.specs.Send.{left, settled}
-use Rattle.order.proofs.Settle.{same_grown, grown, settle_settled, settle_held, settled_counted}
+use Rattle.order.proofs.Settle.{same_grown, grown, settled_counted}
+use Rattle.order.proofs.Settled.{settle_settled, settle_held}
 
 -- ---- what a settled box leaves as it was
 

@@ -4,7 +4,7 @@ use Rattle.std.proofs.Common.{sym, ap, ap₂, ◌∙◌, true≢false, append_as
 use Rattle.std.proofs.lemmas.Bool.{false≢true}
 use Rattle.std.proofs.Math.Decide.{dec_lt, ℕ_discrete}
 use borrow.Author.Tests.{eqb-true, ne_eqb, eqb-false}
-use Rattle.rules.specs.Sets.{mem, without, word, members, all}
+use Rattle.rules.specs.Sets.{mem, without, word, members}
 use Rattle.rules.specs.Box.{Msg, notspt, neighbors, Box, Desk, is_set, head_set, tail, all_sets, take_sets, before, round_sends, stops, next_hop, round}
 use Rattle.rules.specs.Rest.{Table, hops, layer, from, said_set}
 use Rattle.sets.specs.Loops.{some_member, all_out, all_not}

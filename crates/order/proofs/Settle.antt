@@ -8,9 +8,8 @@ use Rattle.std.proofs.Math.ListN.{length, length-append}
 use borrow.Author.Tests.{eqb-true, eq-eqb, ne_eqb}
 use Rattle.rules.specs.Sets.{mem, word, sum, upd}
 use Rattle.rules.specs.Box.{Msg, Box, Desk}
-use Rattle.rules.specs.Hub.{Hub, Wire, no_wire, settle, under_way}
+use Rattle.rules.specs.Hub.{Hub, Wire, no_wire, under_way}
 use Rattle.rules.specs.Rest.{Table}
-use Rattle.sets.specs.Mem.{mem_past}
 use Rattle.sets.specs.Loops.{by_bool, sum_same}
 use Rattle.sets.specs.Tables.{upd_same, upd_other}
 use Rattle.order.specs.Rounds.{link_lt, link_ne, no_link_back}
@@ -20,7 +19,7 @@ use Rattle.order.specs.Wire.{wire, wire_sets, part_le}
 use Rattle.order.specs.Invariant.{Flow, Spent, Seat, sleeps, wakes, rests, spoken, SeatOf, ways, Others, Held, logged, Counted}
 use Rattle.order.proofs.Save.{used}
 use Rattle.order.proofs.Work.{Done, spoken_up, spoken_none}
-use Rattle.order.specs.Send.{wire_same, longer, left, sends_of, settled, settle_is}
+use Rattle.order.specs.Send.{wire_same, longer, left, sends_of, settled}
 
 -- ---- a box keeps its place while its neighbours send
 
@@ -176,11 +175,11 @@ module _ (w : ℕ) (t : List ℕ) where
             | no z ↦ rw (ne_eqb i j z, upd_other g.boxes j d.box i z) (append-nil _)
           ]
 
-      settled_held : Held w t j rest (settled w j d g)
+      pub settled_held : Held w t j rest (settled w j d g)
       settled_held = record { others = record { seats = settled_others; quiet = settled_quiet; log = settled_log }; seat = settled_seat }
 
       -- there was room for all that it sends
-      room_left : (room : ℕ) → w + 1 ≤ room → (b : ℕ) → b < w → length ((left j d g).wires j b).queue + length ((left j d g).wires j b).way + length (d.sends b) ≤ room
+      pub room_left : (room : ℕ) → w + 1 ≤ room → (b : ℕ) → b < w → length ((left j d g).wires j b).queue + length ((left j d g).wires j b).way + length (d.sends b) ≤ room
       unfolding settled
       room_left room hr b hb =
           let q : Wire = (left j d g).wires j b in
@@ -194,13 +193,6 @@ module _ (w : ℕ) (t : List ℕ) where
           let y : length q.queue ≡ 0 = ap (λ (x : Wire). length x.queue) x in
           let z : length (q.way ++ sends_of j d j b) ≡ 0 = ap (λ (x : Wire). length x.way) x in
           omega (arith, length-append q.way (sends_of j d j b), ap length (D.mute b v).0))
-
-      pub settle_settled : (room : ℕ) → w + 1 ≤ room → settle w room j d g ≡ settled w j d g
-      settle_settled room hr =
-          settle_is w room j d g (λ b l. (D.mute b (mem_past w (word t j) (s.small j) b l)).0) (room_left room hr)
-
-      pub settle_held : (room : ℕ) → w + 1 ≤ room → Held w t j rest (settle w room j d g)
-      settle_held room hr = rw (settle_settled room hr) settled_held
 
 -- ---- the counts
 

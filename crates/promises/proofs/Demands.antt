@@ -9,7 +9,7 @@ use Rattle.rules.specs.Sets.{mem, word, sum}
 use Rattle.rules.specs.Box.{Msg}
 use Rattle.rules.specs.Hub.{Hub, no_wire, block, under_way}
 use Rattle.rules.specs.Calls.{Ran, run_call, drain_call}
-use Rattle.rules.specs.Rest.{Least, together, farthest, at_rest, wire_list, wire_count, reached, sent_at_rest, enough}
+use Rattle.rules.specs.Rest.{Least, together, farthest, at_rest, wire_list, wire_count, sent_at_rest, enough}
 use Rattle.sets.specs.Mem.{in_lt}
 use Rattle.sets.specs.Loops.{by_bool}
 use Rattle.calls.specs.Refused.{Untouched}
@@ -345,7 +345,7 @@ module _ (sheet : List ℕ) (starts budget : ℕ) (lent : List ℕ) (ok : (drain
 
   -- "Budget 0 only starts."
   pub drain_starts : budget ≡ 0 → (drain_call sheet starts budget lent).moved ≡ 0
-  drain_starts e = omega (arith, drain_within)
+  drain_starts e = omega (arith, Shown.drain_most sheet starts budget lent (opened sheet (drained starts budget) lent ok))
 
 -- two budgets that finish give the same answer
 pub budgets_alike : (sheet : List ℕ) (starts b c : ℕ) (lent : List ℕ) → (drain_call sheet starts b lent).number ≡ 0
