@@ -82,7 +82,7 @@ pub fn next_pair(list: &[u8], at: usize, pairs: usize, store: &[u32]) -> Pair
 // ---- what it brings
 
 // What a turn has to know of the receiver: its number and link set, the links whose queue holds a message, whether it sleeps, whether it has stopped.
-#[derive(Drop)]
+#[derive(Clone, Copy)]
 pub struct Receiver {
     pub own: usize,
     pub links: u16,
