@@ -1,7 +1,7 @@
 /*
  * The Derowlas hub for C and C++ programs.
  *
- * Link with libderowlas_c.a, which `rt staticlib derowlas_c` writes to target/staticlib (x86-64 Linux). The library needs memcpy and memset
+ * Link with libderowlas_c.a, which `bin/archive` writes to target/staticlib (x86-64 Linux). The library needs memcpy and memset
  * of the C library and nothing else: no memory of its own, no set-up.
  *
  * Words. A hub has N boxes, numbered 0 to N - 1. A set of boxes is a 16-bit number in which box k has the value 2^k. A link joins two different

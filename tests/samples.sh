@@ -1,6 +1,7 @@
 #!/usr/bin/env bash
 # bin/routes: the text of every sample, from a file, from standard input and behind a million bytes of other programs; wrong use and how it is answered; and
-# when the program is built. Wants target/bin/derowlas, which `rt check derowlas` builds. A line for each check that fails; the last is 'N passed, M failed'.
+# when the program is built. Wants crates/derowlas/out/derowlas, which `rt ci` builds, or `rt run` in crates/derowlas. A line for each check that fails; the
+# last is 'N passed, M failed'.
 set -u
 cd "$(dirname "$0")/.." || exit 2
 
@@ -47,8 +48,8 @@ refuses_use() { refuses "$1" && grep -q '^usage: routes ' "$err"; }
 # shows_use: it printed how it is used
 shows_use() { [ "$status" -eq 0 ] && [ ! -s "$err" ] && grep -q '^usage: routes ' "$out"; }
 
-if [ ! -x target/bin/derowlas ]; then
-  check 'target/bin/derowlas is there: rt check derowlas builds it' false
+if [ ! -x crates/derowlas/out/derowlas ]; then
+  check 'crates/derowlas/out/derowlas is there: rt run in crates/derowlas builds it' false
   printf '%s passed, %s failed\n' "$passed" "$failed"
   exit 1
 fi
@@ -129,11 +130,11 @@ printf 'tail:\nother:\nderowlas: tail io\n' >"$project/crates.txt"
 echo '// a source' >"$project/crates/derowlas/src/main.rt"
 cat >"$made/kit/rt" <<END
 #!/bin/sh
-if [ "\$*" != 'check derowlas' ] || [ -e broken ]; then echo 'rt: derowlas NOT PROVED'; exit 1; fi
-mkdir -p target/bin
-[ -e target/bin/derowlas ] || cp '$PWD/target/bin/derowlas' target/bin/derowlas
-echo 'rt: tail proved (unchanged since it was last proved)'
-echo 'rt: derowlas proved (2 s)'
+if [ "\$*" != run ] || [ "\${PWD##*/}" != derowlas ] || [ -e ../../broken ]; then echo 'logic=not-proved' >&2; exit 1; fi
+mkdir -p out
+[ -e out/derowlas ] || cp '$PWD/crates/derowlas/out/derowlas' out/derowlas
+for crate in tail derowlas; do printf 'crate %s: modules loaded=0 checked=1\nlogic=proved functions=1\n' \$crate >&2; done
+exec out/derowlas
 END
 chmod +x "$made/kit/rt"
 
@@ -143,7 +144,7 @@ asks() { ask env PATH="$made/kit:$PATH" "$project/bin/routes" samples/line.sheet
 # builds WHY: it answered, and said before that it builds the program, why, and how far it was
 builds() {
   [ "$status" -eq 0 ] && cmp -s "$out" samples/line.txt && [[ $(head -n 1 "$err") == "routes: the program $1; "*' (2 crates, '* ]] &&
-    [ "$(tail -n 1 "$err")" = 'routes: 2 of 2 crates proved, derowlas the last' ]
+    [ "$(tail -n 2 "$err")" = $'routes: tail is proved\nroutes: derowlas is proved' ]
 }
 
 asks
@@ -151,8 +152,8 @@ check 'a program that is missing is built' builds 'is not built yet'
 asks
 check 'a program that was just built is not built again' prints samples/line.txt
 for source in crates.txt crates/derowlas/src/main.rt crates/derowlas/src; do
-  touch -d '1 hour ago' "$project/target/bin/derowlas"
   find "$project/crates.txt" "$project/crates" -exec touch -d '2 hours ago' {} +
+  touch -d '1 hour ago' "$project/crates/derowlas/out/derowlas"
   asks
   check "a program that is newer than its sources is not built again ($source)" prints samples/line.txt
   touch -d '1 minute ago' "$project/$source"
@@ -162,7 +163,7 @@ for source in crates.txt crates/derowlas/src/main.rt crates/derowlas/src; do
   check "a program that was built again is not built once more ($source)" prints samples/line.txt
 done
 touch "$project/broken"
-touch -d '1 hour ago' "$project/target/bin/derowlas"
+touch -d '1 hour ago' "$project/crates/derowlas/out/derowlas"
 touch "$project/crates.txt"
 asks
 check 'a program that can not be built again is not run' refuses 'routes: the program is older than its sources; '

@@ -10,15 +10,34 @@ const CRATES: [&str; 14] = [
     "pass", "turns", "hub",
 ];
 
-/// Marks the lines that speak to the prover alone.
-const GHOSTS: [&str; 3] = ["ghost use ", "requires {", "ensures {"];
+/// Begins a line that is the prover's or the compiler's of Rattle alone.
+const GHOSTS: [&str; 4] = ["ghost use ", "#![tactic(", "#[tactic(", "#[derive("];
+
+/// Begins a clause of a contract, which ends with the brace that closes it.
+const CLAUSES: [&str; 2] = ["requires ", "ensures "];
+
+/// The lines of a crate without those.
+fn code(text: &str) -> Vec<&str> {
+    let mut open = 0;
+    let mut code = Vec::new();
+    for line in text.lines() {
+        let begins = |words: &[&str]| words.iter().any(|word| line.trim().starts_with(word));
+        if open > 0 || begins(&CLAUSES) {
+            open = open + line.matches('{').count() - line.matches('}').count();
+        } else if !begins(&GHOSTS) {
+            code.push(line);
+        }
+    }
+    code
+}
 
 /// One line of a crate in plain Rust: its structs are copied as they are
 /// passed, and other crates stand beside it as modules.
 fn plain(line: &str) -> String {
-    let mut line = line
-        .replace("pub struct ", "#[derive(Clone, Copy)]\npub struct ")
-        .replace("std::num::wrapping_add_u32(", "u32::wrapping_add(");
+    let mut line = line.replace("std::num::wrapping_add_u32(", "u32::wrapping_add(");
+    if line.starts_with("pub struct ") || line.starts_with("struct ") {
+        line.insert_str(0, "#[derive(Clone, Copy)]\n");
+    }
     for name in CRATES {
         let path = format!("{name}::");
         let mut done = String::new();
@@ -45,11 +64,7 @@ fn main() {
         let source = Path::new(&package).join(format!("../../crates/{name}/src/lib.rt"));
         println!("cargo::rerun-if-changed={}", source.display());
         let text = fs::read_to_string(&source).expect("the crate's code");
-        let code: Vec<String> = text
-            .lines()
-            .filter(|line| !GHOSTS.iter().any(|ghost| line.trim().starts_with(ghost)))
-            .map(plain)
-            .collect();
+        let code: Vec<String> = code(&text).into_iter().map(plain).collect();
         let module = format!("pub mod {name} {{\n{}\n}}\n", code.join("\n"));
         all += &module;
         in_place += &if name == "rows" {

@@ -20,7 +20,7 @@ fn main() {
     println!("cargo::rerun-if-changed={}", archive.display());
     if !archive.is_file() {
         println!(
-            "cargo::error=there is no {}: run `rt staticlib derowlas_c` at the top of the repository, or set {FOLDER} to the folder that holds {ARCHIVE}",
+            "cargo::error=there is no {}: run `bin/archive` at the top of the repository, or set {FOLDER} to the folder that holds {ARCHIVE}",
             archive.display()
         );
         return;

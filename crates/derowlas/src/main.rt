@@ -5,7 +5,8 @@
 
 ghost use Rattle.std.specs.Prelude.{◌≤◌};
 
-use libc::{STDERR_FILENO, STDIN_FILENO, STDOUT_FILENO};
+use std::io;
+use std::io::{Read, Stdin};
 use tail::Tail;
 
 // What has been read: the last bytes of it, whether there may be more, and whether a read failed.
@@ -17,38 +18,33 @@ struct Input {
 }
 
 // Reads once. What came joins the tail.
-fn read_some(t: Tail) -> Input
+fn read_some(stdin: &mut Stdin, t: Tail) -> Input
     requires { t.len ≤ 244 }
     ensures { result.tail.len ≤ 244 }
 {
-    let mut chunk = io::large_buffer();
-    let got = libc::read(STDIN_FILENO, &mut chunk);
-    if got < 0 {
-        return Input {
+    let mut chunk = [0u8; 65536];
+    match stdin.read(&mut chunk) {
+        Err(_) => Input {
             tail: t,
             open: false,
             failed: true,
-        };
-    }
-    if got == 0 {
-        return Input {
+        },
+        Ok(0) => Input {
             tail: t,
             open: false,
             failed: false,
-        };
-    }
-    let n = io::count(got, &chunk);
-    let next = tail::keep_last(t, &chunk[..n]);
-    Input {
-        tail: next,
-        open: true,
-        failed: false,
+        },
+        Ok(n) => Input {
+            tail: tail::keep_last(t, &chunk[..n]),
+            open: true,
+            failed: false,
+        },
     }
 }
 
 // Reads to the end of the input. A proved loop has to end, and nothing says that an input does: so the loop counts its turns down, from a number
 // that no run uses up.
-fn read_all() -> Input
+fn read_all(stdin: &mut Stdin) -> Input
     ensures { result.tail.len ≤ 244 }
 {
     let first = tail::empty();
@@ -60,22 +56,22 @@ fn read_all() -> Input
     let mut turns = u64::MAX;
     while turns > 0 && input.open {
         let t = input.tail;
-        input = read_some(t);
+        input = read_some(stdin, t);
         turns -= 1;
     }
     input
 }
 
-fn main() {
-    let input = read_all();
+fn main(rt: HostRuntime) -> io::Result<()> {
+    let mut stdin = rt.stdin();
+    let input = read_all(&mut stdin);
     if input.failed {
-        io::write_all(STDERR_FILENO, b"derowlas: standard input can't be read\n");
-        return;
+        return rt.eprintln("derowlas: standard input can't be read");
     }
     let t = input.tail;
     let bytes = t.bytes;
     let len = t.len;
-    let mut out = io::buffer();
+    let mut out = [0u8; 4096];
     let n = text::put_text(&bytes[..len], &mut out);
-    io::write_all(STDOUT_FILENO, &out[..n]);
+    rt.write_all(&out[..n])
 }

@@ -16,14 +16,14 @@ fn top(path: &str) -> PathBuf {
 
 /// What the proved program prints for an input.
 fn printed(input: &[u8]) -> String {
-    let program = top("target/bin/derowlas");
+    let program = top("crates/derowlas/out/derowlas");
     let mut child = Command::new(&program)
         .stdin(Stdio::piped())
         .stdout(Stdio::piped())
         .spawn()
         .unwrap_or_else(|error| {
             panic!(
-                "{}: {error}; `rt check derowlas` builds it",
+                "{}: {error}; `bin/routes` builds it",
                 program.display()
             )
         });

@@ -20,7 +20,7 @@
 //!
 //! Every call answers for every input, or refuses with a [`Refusal`], and a
 //! refusal has changed nothing.  The calls are those of `libderowlas_c.a`,
-//! which `rt staticlib derowlas_c` writes; they are proved to answer as
+//! which `bin/archive` writes; they are proved to answer as
 //! `crates/rules/specs/Calls.antt` defines.  They keep no state, and any
 //! thread may call them that has 64 KiB of stack left.
 

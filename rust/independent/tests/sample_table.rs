@@ -193,7 +193,7 @@ fn answer(ask: &mut Reader) -> Vec<u64> {
             let counts = counts.map(|c| [c.sent, c.moved, c.under_way, (c.under_way == 0).into()]);
             ran(counts, &board, &places)
         }
-        "sentOn" => {
+        "sent_on" => {
             let (starts, from, to) = (ask.number(), ask.number() as usize, ask.number() as usize);
             let wire = Wire {
                 from,
@@ -213,7 +213,7 @@ fn answer(ask: &mut Reader) -> Vec<u64> {
             let rest = Rest::new(&parse(&sheet).unwrap());
             rest.block(ask.number() as usize).map(u64::from).to_vec()
         }
-        "fixedOn" => {
+        "fixed_on" => {
             let rest = Rest::new(&parse(&sheet).unwrap());
             told(&rest.wire(ask.number() as usize, ask.number() as usize))
         }
