@@ -9,6 +9,7 @@ ghost use Rattle.sheet.specs.Answers.{pair_number, pairs_answer, trailer_number,
 // ---- sets and tables
 
 // The set s joins entry k of the table.
+#[tactic(auto, unfolding(rules::specs::Sets::join_at))]
 fn join_at(t: [u16; 16], k: usize, s: u16) -> [u16; 16]
     requires { k < 16 }
     ensures { result ≡ join_at t k s }
@@ -19,6 +20,7 @@ fn join_at(t: [u16; 16], k: usize, s: u16) -> [u16; 16]
 }
 
 // A link joins the table, both ways.
+#[tactic(auto, unfolding(rules::specs::Sheet::link))]
 fn add_link(t: [u16; 16], a: usize, b: usize) -> [u16; 16]
     requires { (a < 16) × (b < 16) }
     ensures { result ≡ link a b t }
@@ -38,6 +40,7 @@ pub fn byte_at(s: &[u8], i: usize) -> usize
 }
 
 // The number that the pair (c, d) is refused with, 0 for none; (a, b) is the pair before. "Pair by pair 6 to 8."
+#[tactic(auto, unfolding(crate::specs::Answers::pair_number, rules::specs::Sheet::above))]
 fn pair_number(n: usize, a: usize, b: usize, c: usize, d: usize) -> u32
     ensures { result ≡ pair_number n a b c d }
 {
@@ -122,6 +125,7 @@ fn no_sheet(number: u32) -> Parsed
 }
 
 // The number that the trailer of a sheet of `end` bytes is refused with, 0 for none: "The order is the table's", here 2 to 5.
+#[tactic(auto, unfolding(crate::specs::Answers::trailer_number))]
 fn trailer_number(end: usize, b: usize, p: usize, n: usize, version: usize) -> u32
     ensures { (result ≡ trailer_number end b p n version) × (result ≡ 0 → Trailed end b p n) }
 {

@@ -1,13 +1,8 @@
 -- `links_of` meets its contract. The loop's invariant: k counts the links of the rows passed. Assumes nothing.
 use Prim.Native.Nat.{◌≤◌, ◌-◌, ◌*◌}
-use native.Mathlib.Omega.{arith}
-use native.Mathlib.Numerals.{add-one}
-use mathlib.Core.Path.{◌≡◌, refl}
-use borrow.Author.Rules.{rules}
+use mathlib.Core.Path.{◌≡◌}
 use Rattle.rules.specs.Sets.{sum, count}
-use Rattle.rules.specs.Sheet.{link_count}
 use Rattle.writing.specs.Writing.{is_link}
-use Rattle.writing.proofs.WriteLaws.{row_most, links_most}
 use Rattle.writing.proofs.links_of.Given as goal
 
 abbrev pub invariant-loop-i : goal.invariant-loop-i

@@ -1,12 +1,10 @@
 -- `put_links` meets its contract. The loop's invariant: the rows passed are stored. Assumes nothing.
-use Prim.Native.Nat.{◌≤◌, ◌-◌}
 use native.Mathlib.Omega.{arith}
 use native.Mathlib.Nat.{zero-add}
 use mathlib.Core.Path.{◌≡◌, ◌∙◌}
 use borrow.Author.Rules.{rules}
 use Rattle.rules.specs.Sheet.{link_bytes}
-use Rattle.sets.specs.Stores.{Stored, stored_none, stored_length, stored_room, stored_next}
-use Rattle.writing.specs.Writing.{row_bytes}
+use Rattle.sets.specs.Stores.{stored_none, stored_room, stored_next}
 use Rattle.writing.proofs.put_links.Goals as goal
 
 pub loop-i-init : goal.loop-i-init
@@ -23,9 +21,6 @@ pub loop-i-preserved : goal.loop-i-preserved
 loop-i-preserved c =
     let s = c.put_row-k.ensures in
     (omega arith, stored_next _ _ _ _ _ _ c.loop-i.invariant.1 _ _ s.0 s.1)
-
-pub shape_of-buffer : goal.shape_of-buffer
-shape_of-buffer c = stored_length _ _ _ _ _ _ c.loop-i.invariant.1
 
 pub returns : goal.returns
 unfolding link_bytes

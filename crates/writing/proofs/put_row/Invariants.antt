@@ -1,9 +1,6 @@
 -- `put_row` meets its contract. The loop's invariant: the pairs passed are stored. Assumes nothing.
 use Prim.Native.Nat.{◌≤◌, ◌-◌}
-use native.Mathlib.Omega.{arith}
-use mathlib.Core.Path.{◌≡◌}
-use borrow.Author.Rules.{rules}
-use Rattle.sets.specs.Stores.{Stored, stored_none, stored_length, stored_room, stored_next}
+use Rattle.sets.specs.Stores.{Stored}
 use Rattle.writing.specs.Writing.{pair_of}
 use Rattle.writing.proofs.put_row.Given as goal
 

@@ -1,12 +1,7 @@
 -- `row_links` meets its contract. The loop's invariant: k counts the pairs passed. Assumes nothing.
 use Prim.Native.Nat.{◌≤◌, ◌-◌}
-use native.Mathlib.Omega.{arith}
-use native.Mathlib.Numerals.{add-one}
-use mathlib.Core.Path.{◌≡◌, refl}
-use mathlib.Core.Logic.{⊎_elim}
-use borrow.Author.Rules.{rules}
+use mathlib.Core.Path.{◌≡◌}
 use Rattle.rules.specs.Sets.{count}
-use Rattle.sets.specs.Loops.{count_last}
 use Rattle.writing.specs.Writing.{is_link}
 use Rattle.writing.proofs.row_links.Given as goal
 

