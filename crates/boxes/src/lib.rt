@@ -43,7 +43,7 @@ pub struct Arrival {
 }
 
 // What goes out, with what the turn has to know of the arrival.
-#[derive(Drop)]
+#[derive(Clone, Copy)]
 pub struct Departure {
     pub own: usize,
     pub from: usize,
