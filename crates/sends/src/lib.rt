@@ -162,24 +162,6 @@ fn keep_tables(store: &mut [u32], o: Departure, ended: bool, links: u16, to: u16
     }
 }
 
-// The same departure again, since one is moved where it is passed.
-fn copy_of(o: &Departure) -> Departure
-    ensures { result ≡ o.now }
-{
-    Departure {
-        own: o.own,
-        from: o.from,
-        heard: o.heard,
-        sets: o.sets,
-        origins: o.origins,
-        neighbors: o.neighbors,
-        moved: o.moved,
-        wakes: o.wakes,
-        round: o.round,
-        stops: o.stops,
-    }
-}
-
 // What goes out, and what is carried to the next turn.
 pub fn put(store: &mut [u32], o: Departure, c: Carried) -> Carried
     requires { (length store.old ≡ 9264) × (1 ≤ c.left) }
@@ -195,8 +177,8 @@ pub fn put(store: &mut [u32], o: Departure, c: Carried) -> Carried
         sent: c.sent,
         full: c.full,
     };
-    let p = post_all(store, copy_of(&o), links, first);
-    keep_tables(store, copy_of(&o), ended, links, to);
+    let p = post_all(store, o, links, first);
+    keep_tables(store, o, ended, links, to);
     Carried {
         left: left_after(c.left, c.at, c.pairs, o.moved),
         at: at_after(c.at, c.pairs),
