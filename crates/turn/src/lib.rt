@@ -17,7 +17,7 @@ pub struct Pair {
 }
 
 // What a run carries from turn to turn by value; what it has by box stands in the store (crate tables).
-#[derive(Drop)]
+#[derive(Clone, Copy)]
 pub struct Carried {
     // how many turns may still come; the next pair of the list, and how many pairs it has
     pub left: usize,
