@@ -6,7 +6,7 @@ ghost use Rattle.std.specs.Prelude.{◌≡◌, ◌+◌, ◌-◌, ◌<◌, ◌≤
 ghost use Rattle.tail.specs.Last.{held, Keeps};
 
 // The first `len` of the bytes are what is held.
-#[derive(Drop)]
+#[derive(Clone, Copy)]
 pub struct Tail {
     pub bytes: [u8; 244],
     pub len: usize,
