@@ -8,6 +8,7 @@ ghost use Rattle.lists.specs.Checks.{pair_number, list_number, start_pairs};
 // ---- the list is checked whole before its first pair is done
 
 // 10 for a box of N or above, 11 for two different boxes without a link, 0 where the pair is fine.
+#[tactic(auto, unfolding(crate::specs::Checks::pair_number))]
 fn pair_number(n: usize, table: [u16; 16], a: usize, b: usize) -> u32
     requires { n ≤ 16 }
     ensures { result ≡ pair_number n table a b }
@@ -28,6 +29,7 @@ fn pair_number(n: usize, table: [u16; 16], a: usize, b: usize) -> u32
 }
 
 // 9 for a list of odd length or over 60,000 bytes, then pair by pair 10 and 11; 0 where there is nothing to refuse.
+#[tactic(auto, using(crate::proofs::ListLaws::odd_list, crate::proofs::ListLaws::long_list))]
 pub fn list_number(list: &[u8], n: usize, table: [u16; 16]) -> u32
     requires { n ≤ 16 }
     ensures { result ≡ list_number n table list.now }
