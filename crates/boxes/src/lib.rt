@@ -9,7 +9,7 @@ ghost use Rattle.boxes.specs.Record.{box_of, record_of};
 ghost use Rattle.boxes.specs.Step.{hopped, without_each, save_all, sets_of, origins_of, step_def};
 
 // state: 0 asleep, 1 awake, 2 stopped. "A record carries its arrays with it, tables and counts together."
-#[derive(Drop)]
+#[derive(Clone, Copy)]
 pub struct Record {
     pub state: u16,
     pub hop: u16,
@@ -43,7 +43,7 @@ pub struct Arrival {
 }
 
 // What goes out, with what the turn has to know of the arrival.
-#[derive(Drop)]
+#[derive(Clone, Copy)]
 pub struct Departure {
     pub own: usize,
     pub from: usize,
