@@ -2,7 +2,7 @@
 use Prim.Native.Nat.{ℕ, zero, suc, ◌+◌, ◌-◌, ◌*◌, ◌^◌, ◌≤◌, ◌<◌}
 use native.Mathlib.Omega.{arith}
 use native.Mathlib.Nat.{suc-mul}
-use mathlib.Core.Path.{◌≡◌, refl, ap, ◌∙◌}
+use mathlib.Core.Path.{◌≡◌, refl, sym, ap, ◌∙◌}
 use mathlib.Core.List.{List, [], ◌++◌}
 use borrow.Author.Tests.{lt-ltb, le-ltb, eq-eqb, ne_eqb}
 use lib.Dec.{eqb, ltb}
@@ -35,6 +35,11 @@ module _ (board : List ℕ) (i j : ℕ) where
     pub route_line : first_with board (nodes_at i) j < 16 → route board i j ≡ line i j (first_with board (nodes_at i) j) (first_with board (in_spt_at i) j)
     unfolding route
     route_line l = rw (ne_eqb i j other, lt-ltb (first_with board (nodes_at i) j) 16 l)
+
+-- the same of the numbers that the code found
+pub route_found : (board : List ℕ) (i j hops from : ℕ) → (i ≡ j → ⊥) → hops ≡ first_with board (nodes_at i) j → hops < 16 → from ≡ first_with board (in_spt_at i) j
+    → route board i j ≡ line i j hops from
+route_found board i j hops from other h l f = route_line board i j other (rw h at l) ∙ sym (rw (h, f))
 
 -- ---- a buffer of 4,096 bytes holds every text
 
