@@ -14,7 +14,7 @@ use Rattle.std.proofs.Math.ListN.{length, length-set}
 use Rattle.std.proofs.Math.Pow.{pow-lt}
 use borrow.Author.Tests.{le-leb, lt-leb, lt-ltb, eq-eqb, ne_eqb}
 use Rattle.rules.specs.Sets.{mem, word}
-use Rattle.rules.specs.Box.{Msg, notspt, neighbors, lists, behind, save_lists, save_heads, is_set, head_set, tail}
+use Rattle.rules.specs.Box.{Msg, notspt, neighbors, behind, save_lists, save_heads, is_set, head_set, tail}
 use Rattle.rules.specs.Hub.{Wire}
 use Rattle.sets.specs.Mem.{mem_or, mem_one, mem_empty}
 use Rattle.sets.specs.Loops.{by_bool, for_each_keeps}

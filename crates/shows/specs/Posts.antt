@@ -1,6 +1,6 @@
 -- What a turn posts is what the rules send: word by word, list by list, link by link. Assumes nothing.
 use Prim.Native.Nat.{ℕ, zero, suc, ◌+◌, ◌%◌, ◌≤◌, ◌<◌}
-use Rattle.std.specs.Prelude.{◌≡◌, Bool, cond, List, [], ◌∷◌, ◌++◌, map, ◌⊎◌, ltb, length}
+use Rattle.std.specs.Prelude.{◌≡◌, Bool, cond, List, [], ◌∷◌, ◌++◌, map, ltb, length}
 use Rattle.std.proofs.Math.Path.{refl, sym, ap}
 use Rattle.std.proofs.Common.{ap₂, ◌∙◌, append-nil, ⊎_elim, arith}
 use Rattle.std.proofs.Math.Bool.{true, false}

@@ -1,6 +1,6 @@
 -- What one message does at a box that is awake between two deliveries, case by case: it waits behind another; it is a list, and saved at once; it is a set,
 -- and waits for the other links; it is the set that was waited for, and a round is done. Pointwise, for any number of boxes. Assumes nothing.
-use Rattle.std.specs.Prelude.{ℕ, zero, suc, ◌+◌, ◌≤◌, ◌<◌, ◌≡◌, Bool, cond, ◌||◌, ◌⊎◌, ◌≢◌, eqb, length, set}
+use Rattle.std.specs.Prelude.{ℕ, zero, suc, ◌≤◌, ◌<◌, ◌≡◌, Bool, cond, ◌||◌, ◌⊎◌, ◌≢◌, eqb, length, set}
 use Rattle.std.proofs.Math.Path.{refl, ap, fun_ext}
 use Rattle.std.proofs.Common.{sym, ◌∙◌, inl, inr, ⊎_elim, arith}
 use Rattle.std.proofs.Math.Bool.{true, false, not, false≢true}

@@ -35,7 +35,7 @@ use Rattle.turn.specs.Turn.{Turn, turn_of, Took, searched, next_pair, quiet, one
 use Rattle.turns.proofs.Laws.{turns_over, turns_on, turn_pairs}
 use Rattle.turns.specs.Turns.{Going, turn_def, turns_def, first_turn, asleep_row, own_def}
 use Rattle.shows.specs.Held.{length_words}
-use Rattle.shows.specs.Shows.{Shows, some}
+use Rattle.shows.specs.Shows.{Shows}
 use Rattle.shows.specs.Steps.{passes}
 use Rattle.shows.specs.Delivers.{stepped_at, idle, begun_shows, delivered_shows}
 

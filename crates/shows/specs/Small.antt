@@ -1,5 +1,5 @@
 -- On every hub that the rules reach, each message that waits fits a word, and a box's queues are as its state says. Assumes nothing.
-use Rattle.std.specs.Prelude.{ℕ, zero, suc, ◌+◌, ◌<◌, ◌≡◌, refl, true, false, List, [], ◌∷◌, ◌++◌, ◌⊎◌, ◌≢◌}
+use Rattle.std.specs.Prelude.{ℕ, zero, suc, ◌<◌, ◌≡◌, refl, true, false, List, [], ◌∷◌, ◌++◌, ◌⊎◌, ◌≢◌}
 use Rattle.std.proofs.Common.{sym, ap, ◌∙◌, subst, true≢false, inl, inr, arith}
 use Rattle.rules.specs.Sets.{mem, word}
 use Rattle.rules.specs.Box.{Msg, Box, behind}

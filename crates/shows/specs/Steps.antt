@@ -1,10 +1,10 @@
 -- The step of the code in the words of a desk: what it sends to each link, and when it ends, without a round and with one. Assumes nothing.
-use Rattle.std.specs.Prelude.{ℕ, ◌+◌, ◌%◌, ◌^◌, ◌<◌, ◌≡◌, Bool, cond, List, [], ◌∷◌, ◌++◌}
+use Rattle.std.specs.Prelude.{ℕ, ◌%◌, ◌^◌, ◌<◌, ◌≡◌, Bool, cond, List, [], ◌∷◌, ◌++◌}
 use Rattle.std.proofs.Math.Path.{refl, ap₂}
 use Rattle.std.proofs.Common.{sym, ap, ◌∙◌, append-nil, arith}
 use Rattle.std.proofs.Math.Bool.{true, false, ◌&&◌, ◌||◌, or-false}
 use Rattle.rules.specs.Sets.{mem, word}
-use Rattle.rules.specs.Box.{Msg, notspt, neighbors, start_sends, round_sends, stops}
+use Rattle.rules.specs.Box.{Msg, notspt, start_sends, round_sends, stops}
 use Rattle.sets.specs.Loops.{by_bool}
 use Rattle.boxes.specs.declared.Record.{Record}
 use Rattle.boxes.specs.declared.Arrival.{Arrival}
