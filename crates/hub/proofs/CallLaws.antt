@@ -10,7 +10,7 @@ use Rattle.rules.specs.Sheet.{Sheet, read_sheet}
 use Rattle.rules.specs.Hub.{Hub, sleeping, run, drain, start_all}
 use Rattle.rules.specs.Rest.{Table}
 use Rattle.rules.specs.Calls.{hub_answer, fitting, running, draining, on_sheet, run_call, drain_call}
-use Rattle.sheet_laws.specs.Accepted.{accepted_told}
+use Rattle.sheet_laws.proofs.Accepted.{accepted_told}
 use Rattle.sheet.specs.declared.Parsed.{Parsed}
 use Rattle.sheet.specs.Answers.{ParsedFrom}
 use Rattle.sheet.proofs.SheetLaws.{sheet_accepted, sheet_refused}

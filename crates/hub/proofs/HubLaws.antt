@@ -1,5 +1,5 @@
 -- What the owner's turns leave, in the words of the calls: the counts, the board, and that a refusal shows nothing. Assumes nothing.
-use Prim.Native.Nat.{ℕ, ◌+◌, ◌-◌, ◌*◌, ◌≤◌, ◌<◌}
+use Prim.Native.Nat.{ℕ, ◌-◌, ◌*◌, ◌≤◌, ◌<◌}
 use mathlib.Core.Path.{◌≡◌, sym, ap, ap₂, ◌∙◌, subst}
 use mathlib.Core.Bool.{Bool, true, false}
 use mathlib.Core.List.{List, ◌++◌}
@@ -16,9 +16,9 @@ use Rattle.rules.specs.Calls.{Ran, hub_answer, fitting}
 use Rattle.sets.specs.Loops.{each_same, count_le}
 use Rattle.order.specs.Terms.{Names}
 use Rattle.order.specs.Invariant.{Sound}
-use Rattle.order.specs.Drain.{drained}
+use Rattle.order.proofs.Drain.{drained}
 use Rattle.order.specs.Sums.{sum_flat}
-use Rattle.order.specs.Sent.{sent_low}
+use Rattle.order.proofs.Sent.{sent_low}
 use Rattle.boxes.specs.Record.{box_of, blank}
 use Rattle.turn.specs.Turn.{Turn}
 use Rattle.turns.specs.declared.Ran.{Ran as Own}

@@ -1,6 +1,6 @@
 -- What the calls on the store come to in a turn's definitions: each law takes what the callees promise, and gives what the function promises.
 -- Assumes nothing.
-use Rattle.std.proofs.Common.{◌≡◌, ℕ, zero, suc, ◌+◌, ◌-◌, ◌%◌, ◌^◌, ◌<◌, Bool, true, false, cond, ltb, List, length, set, sym, refl, ap, ◌∙◌, arith, ltb-true, lt-ltb}
+use Rattle.std.proofs.Common.{◌≡◌, ℕ, zero, suc, ◌+◌, ◌%◌, ◌^◌, ◌<◌, Bool, true, false, cond, ltb, List, length, set, sym, refl, ap, ◌∙◌, arith, ltb-true, lt-ltb}
 use lib.Bits.{bit_or}
 use Rattle.rules.specs.Box.{notspt, neighbors}
 use Rattle.sets.specs.Mem.{and_both}

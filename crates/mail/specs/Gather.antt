@@ -1,6 +1,6 @@
 -- What has come for one box in a round, as code takes it off the queues: the set at each head, and the lists behind it. Written with the store's own
 -- definitions. Definitions alone.
-use Rattle.std.specs.Prelude.{ℕ, zero, suc, ◌+◌, ◌*◌, ◌^◌, Bool, cond, ◌&&◌, List, set, replicate, bit_or, nat_lt, slice_set}
+use Rattle.std.specs.Prelude.{ℕ, zero, suc, ◌+◌, ◌*◌, ◌^◌, Bool, cond, ◌&&◌, List, replicate, bit_or, nat_lt, slice_set}
 use Rattle.rules.specs.Sets.{for_each}
 use Rattle.wires.specs.Wires.{sixteen, queued, front, taken, taken_word, cleared}
 use Rattle.wires.specs.Words.{is_list, origin_of, set_of}

@@ -1,13 +1,2 @@
 pub mod Said
 pub mod Conditions
-pub mod High
-pub mod Opens
-pub mod Refusals
-pub mod Blocks
-pub mod Routes
-pub mod Most
-pub mod Shown
-pub mod Starts
-pub mod Sheets
-pub mod Demands
-pub mod Idle

@@ -1,14 +1,4 @@
 pub mod Conditions
 pub mod Answers
-pub mod Proper
-pub mod Refusals
-pub mod Numbers
 pub mod Rising
-pub mod Pairs
-pub mod Links
 pub mod Counting
-pub mod LinkPairs
-pub mod Back
-pub mod Accepted
-pub mod LinksOf
-pub mod RoundTrip

@@ -24,8 +24,8 @@ use Rattle.sets.specs.Tables.{upd_same, upd_other}
 use Rattle.hops.specs.Rest.{far_lt}
 use Rattle.order.specs.Send.{left, settled}
 use Rattle.order.specs.Invariant.{Sound, SeatOf, sleeps, wakes, rests, ways}
-use Rattle.order.specs.Settle.{room_of}
-use Rattle.order.specs.Moves.{good_held, full_link, deliver_none, delivered, first_desk, start_cases, deliver_sound, start_sound}
+use Rattle.order.proofs.Settle.{room_of}
+use Rattle.order.proofs.Moves.{good_held, full_link, deliver_none, delivered, first_desk, start_cases, deliver_sound, start_sound}
 use Rattle.order.specs.Rounds.{links_lt}
 use Rattle.wires.specs.Wires.{sixteen, Waiting, waiting, Formed, Others, queued, under_way, arrived, oldest, skipped, taken as taken_off, taken_word, Arrived, Skipped, Taken}
 use Rattle.wires.specs.Words.{word_of, is_list, origin_of, set_of}

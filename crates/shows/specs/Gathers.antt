@@ -18,7 +18,7 @@ use Rattle.rules.specs.Box.{Msg, notspt, neighbors, lists, behind, save_lists, s
 use Rattle.rules.specs.Hub.{Wire}
 use Rattle.sets.specs.Mem.{mem_or, mem_one, mem_empty}
 use Rattle.sets.specs.Loops.{by_bool, for_each_keeps}
-use Rattle.order.specs.Round.{has_head}
+use Rattle.order.proofs.Round.{has_head}
 use Rattle.wires.specs.Wires.{sixteen, Waiting, waiting, Formed, Others, queued, front, taken, taken_word, Taken}
 use Rattle.wires.specs.Words.{word_of, is_list, origin_of, set_of, Small}
 use Rattle.wires.proofs.Laws.{queue_length, first_law, take_law, sixteen_proper}

@@ -19,8 +19,8 @@ use Rattle.sets.specs.Mem.{mem_empty}
 use Rattle.sets.specs.Loops.{by_bool, least_ok, least_hit, least_same, any_out}
 use Rattle.order.specs.Invariant.{Sound}
 use Rattle.order.specs.Terms.{Names, begin}
-use Rattle.order.specs.Reached.{sound}
-use Rattle.order.specs.Moves.{deliver_sound, start_sound, full_link}
+use Rattle.order.proofs.Reached.{sound}
+use Rattle.order.proofs.Moves.{deliver_sound, start_sound, full_link}
 use Rattle.wires.specs.Wires.{sixteen, queued, under_way, Waiting}
 use Rattle.wires.specs.Words.{is_list}
 use Rattle.wires.proofs.Laws.{way_length}

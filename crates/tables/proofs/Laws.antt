@@ -4,7 +4,7 @@ use Prim.Native.Nat.{ℕ, zero, suc, ◌+◌, ◌%◌, ◌≤◌, ◌<◌}
 use native.Mathlib.Nat.{add-zero, mod-eq_of_lt}
 use native.Mathlib.Decide.{ℕ_discrete}
 use native.Mathlib.Omega.{arith}
-use mathlib.Core.Path.{◌≡◌, refl, sym, ap, ap₂, ◌∙◌}
+use mathlib.Core.Path.{◌≡◌, refl, sym, ap, ap₂, subst, ◌∙◌}
 use mathlib.Core.Logic.{◌≢◌}
 use mathlib.Core.List.{List, [], ◌∷◌}
 use lib.Dec.{eqb}
@@ -61,7 +61,7 @@ table_put s k (suc n) zero x l h m =
     ap₂ ◌∷◌ (rw add-zero (entry_same s k x (omega arith) m)) (entries_agree s _ (k + 1) n (λ b _. entry_other s (k + 0) (k + 1 + b) x (omega arith)))
 table_put s k (suc n) (suc b) x l h m =
     let e : k + suc b ≡ k + 1 + b = omega arith in
-    ap₂ ◌∷◌ (entry_other s (k + suc b) k x (omega arith)) (rw e (table_put s (k + 1) n b x (omega arith) (omega arith) m))
+    ap₂ ◌∷◌ (entry_other s (k + suc b) k x (omega arith)) (subst (λ (p : ℕ). entries (with_entry s p x) (k + 1) n ≡ set (entries s (k + 1) n) b x) (sym e) (table_put s (k + 1) n b x (omega arith) (omega arith) m))
 
 -- an entry of another table is
 table_other : (s : List ℕ) (k n j x : ℕ) → ((b : ℕ) → b < n → k + b ≢ j) → entries (with_entry s j x) k n ≡ entries s k n

@@ -3,7 +3,7 @@ use Rattle.std.specs.Prelude.{ℕ, ◌≡◌, List, []}
 use Rattle.std.proofs.Common.{arith, ap, ◌∙◌}
 use Rattle.rules.specs.Sheet.{read_sheet}
 use Rattle.rules.specs.Calls.{boxes_most, drain_call}
-use Rattle.sheet_laws.specs.RoundTrip.{last_enough}
+use Rattle.sheet_laws.proofs.RoundTrip.{last_enough}
 use Rattle.tail.specs.declared.Tail.{Tail}
 use Rattle.tail.specs.Last.{last_of, held}
 use Rattle.tail.specs.Chunks.{all_of, KeepsEach, chunks_kept}

@@ -17,7 +17,7 @@ pub struct Pair {
 }
 
 // What a run carries from turn to turn by value; what it has by box stands in the store (crate tables).
-#[derive(Drop)]
+#[derive(Clone, Copy)]
 pub struct Carried {
     // how many turns may still come; the next pair of the list, and how many pairs it has
     pub left: usize,
@@ -82,7 +82,7 @@ pub fn next_pair(list: &[u8], at: usize, pairs: usize, store: &[u32]) -> Pair
 // ---- what it brings
 
 // What a turn has to know of the receiver: its number and link set, the links whose queue holds a message, whether it sleeps, whether it has stopped.
-#[derive(Drop)]
+#[derive(Clone, Copy)]
 pub struct Receiver {
     pub own: usize,
     pub links: u16,

@@ -25,7 +25,7 @@ use Rattle.mail.specs.Gather.{wire_of}
 use Rattle.turn.specs.declared.Carried.{Carried}
 use Rattle.turn.specs.declared.Pair.{Pair}
 use Rattle.pass.specs.declared.Glance.{Glance}
-use Rattle.turn.specs.Turn.{Turn, turn_of, less_of, kept_tables, searched, next_pair, quiet, took_pair, took_def, Took, less_busy, more_busy, ends, Put, next_turn, put_def}
+use Rattle.turn.specs.Turn.{Turn, turn_of, less_of, kept_tables, searched, next_pair, took_pair, took_def, Took, less_busy, more_busy, ends, Put, next_turn, put_def}
 use Rattle.turn.specs.Parts.{took, receiver_of, quiet_to}
 use Rattle.pass.specs.Pass.{Glanced, glance_pair, kept, carried_on, glance_at, quiet_turn, quiet_store, pass_one, pass_to, pass_all}
 use Rattle.tables.proofs.Laws.{Same}

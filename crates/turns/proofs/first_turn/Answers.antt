@@ -1,5 +1,5 @@
 -- `turns::first_turn` meets its contract. Assumes nothing.
-use Rattle.std.proofs.Common.{refl}
+use mathlib.Core.Path.{refl}
 use Rattle.turns.specs.Turns.{first_turn}
 use Rattle.turns.proofs.first_turn.Goals as goal
 

@@ -1,5 +1,4 @@
 -- `wires::first` meets its contract. Assumes nothing.
-use borrow.Author.Rules.{rules}
 use Rattle.wires.specs.Wires.{sixteen, front}
 use Rattle.wires.proofs.Laws.{first_law, sixteen_proper}
 use Rattle.wires.proofs.first.Goals as goal

@@ -1,5 +1,4 @@
 -- `wires::take` meets its contract: the words it leaves are those of the law of messages taken. Assumes nothing.
-use borrow.Author.Rules.{rules}
 use lib.ListN.{length-set}
 use native.Mathlib.Omega.{arith}
 use Rattle.wires.specs.Wires.{sixteen}

@@ -1,0 +1,10 @@
+pub mod Proper
+pub mod Refusals
+pub mod Numbers
+pub mod Pairs
+pub mod Links
+pub mod LinkPairs
+pub mod Back
+pub mod Accepted
+pub mod LinksOf
+pub mod RoundTrip
