@@ -17,8 +17,7 @@ use Rattle.order.specs.Terms.{starts_of, handed, SetsOnly, Final}
 use Rattle.order.proofs.Groups.{together_walk}
 use Rattle.order.proofs.Promises
 use Rattle.sheet_laws.specs.Conditions.{None, N, P, Linked, sheet_lines}
-use Rattle.sheet_laws.proofs.LinksOf.{Joins}
-use Rattle.sheet_laws.proofs.Numbers.{Counted}
+use Rattle.sheet_laws.specs.Said.{Joins, Counted}
 use Rattle.promises.specs.Said.{Call, listed, drained, answer, starting, table_of, hub_of, Opened, block_at, state_at, hop_at, nodes_at, in_at, not_at, list_at, Leads, InStarted, SameGroups, Takes, Farthest}
 use Rattle.promises.specs.Conditions.{first_of, second_of, ask_lines, call_lines, Cond13}
 use Rattle.promises.proofs.Opens.{opened, refused_call}

@@ -11,10 +11,11 @@ use Rattle.rules.specs.Rest.{wire_count}
 use Rattle.rules.specs.Calls.{hub_answer, check_pairs, fitting, running, draining, on_sheet, run_call, drain_call, longest_list}
 use Rattle.sheet_laws.specs.Conditions.{Line, line, First, None, N, P, Linked, pair_lines, sheet_lines}
 use Rattle.sheet_laws.specs.Answers.{Tests, ltb_tests, leb_tests, eqb_tests, not_tests, or_tests, and_tests, Answers, accepted_answers, refuse_answers, then_answers, none_append, first_append}
+use Rattle.sheet_laws.specs.Said.{Joins, Counted}
 use Rattle.sheet_laws.proofs.Refusals.{two_more, read_sheet_answers}
 use Rattle.sheet_laws.proofs.Accepted.{accepted_sheet, accepted_told}
-use Rattle.sheet_laws.proofs.LinksOf.{Joins, links_of_lem}
-use Rattle.sheet_laws.proofs.Numbers.{number_of, Numbered, numbered_append, sheet_numbered, Counted, counted}
+use Rattle.sheet_laws.proofs.LinksOf.{links_of_lem}
+use Rattle.sheet_laws.proofs.Numbers.{number_of, Numbered, numbered_append, sheet_numbered, counted}
 use Rattle.order.specs.Terms.{Reached, begin}
 use Rattle.order.proofs.Reached.{checked_names, run_reached, starts_reached, drain_reached}
 use Rattle.order.proofs.Promises.{never_full}

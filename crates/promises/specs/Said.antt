@@ -1,7 +1,7 @@
 -- The words of the demands over the calls: what a reader of Demands has to know beside the rules. Definitions alone.
 -- A sheet and a list are bytes, a start set and a budget are numbers, a board is lent words; Calls of the rules says what comes out.
 -- Of the crate order a reader needs `Names`, `asks`, `starts_of`, `tally`, `handed`, `SetsOnly` (Terms); of the crate sheet_laws `N`, `P` and the sheet's lines (Conditions)
--- and `Joins` (LinksOf); of the crate calls `Untouched` (Refused).
+-- and `Joins` (Said); of the crate calls `Untouched` (Refused).
 use Rattle.std.specs.Prelude.{ℕ, suc, ◌+◌, ◌*◌, ◌%◌, ◌^◌, ◌≤◌, ◌<◌, ◌≡◌, true, List, ◌↔◌, eqb, length, take, drop, replicate}
 use Rattle.rules.specs.Sets.{mem, word}
 use Rattle.rules.specs.Hub.{Hub, sleeping, run, drain, start_all, under_way, board_of}

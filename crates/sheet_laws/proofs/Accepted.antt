@@ -1,13 +1,13 @@
 -- What an accepted sheet is: rising pairs of boxes below N behind a right trailer, and the table that has exactly these links. Assumes nothing.
-use Rattle.std.specs.Prelude.{ℕ, ◌+◌, ◌*◌, ◌≤◌, ◌<◌, ◌≡◌, refl, true, List, length, replicate}
+use Rattle.std.specs.Prelude.{ℕ, ◌+◌, ◌*◌, ◌≤◌, ◌≡◌, refl, List, length, replicate}
 use Rattle.std.proofs.Common.{sym, ap, ◌∙◌, true≢false, inl, inr, arith, length-take, length-drop, pow_pos}
 use Rattle.std.proofs.Math.Decide.{dec_le, ℕ_discrete}
-use Rattle.rules.specs.Sets.{mem, word}
+use Rattle.rules.specs.Sets.{word}
 use Rattle.rules.specs.Outcome.{Outcome, refused, accepted, and_then}
-use Rattle.rules.specs.Sheet.{Sheet, read_sheet, pairs, pair_bytes, most_links, link_count}
-use Rattle.rules.specs.Rest.{Table}
+use Rattle.rules.specs.Sheet.{Sheet, read_sheet, pairs, pair_bytes, most_links}
 use Rattle.sets.specs.Mem.{mem_empty, set_ext}
 use Rattle.sheet_laws.specs.Conditions.{B, P, N, version}
+use Rattle.sheet_laws.specs.Said.{Told}
 use Rattle.sheet_laws.specs.Answers.{clash}
 use Rattle.sheet_laws.proofs.Refusals.{whole, read_sheet_answers}
 use Rattle.sheet_laws.specs.Rising.{In, Rising, chain_rising}
@@ -86,16 +86,6 @@ accepted_sheet w s r e =
     }
 
 -- ---- its table, in plain words
-
--- the table of a read sheet: a link table of w boxes, that names no box of N or above and has exactly P links
-pub record Told (w : ℕ) (r : Sheet) : Type 0 where
-  pub some_box : 1 ≤ r.boxes
-  pub few_boxes : r.boxes ≤ w
-  pub few_links : r.links ≤ most_links w
-  pub table_good : Table w r.table
-  pub empty_past : (i : ℕ) → r.boxes ≤ i → word r.table i ≡ 0
-  pub names_below : (i j : ℕ) → mem j (word r.table i) ≡ true → j < r.boxes
-  pub links_all : link_count w r.table ≡ r.links
 
 told : (w : ℕ) (s : List ℕ) (r : Sheet) → Accepted w s r → Told w r
 told w s r a =

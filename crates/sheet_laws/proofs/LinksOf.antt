@@ -1,5 +1,5 @@
 -- The table of an accepted sheet links two boxes exactly where one of the sheet's pairs names them. Assumes nothing.
-use Rattle.std.specs.Prelude.{ℕ, zero, suc, ◌+◌, ◌-◌, ◌*◌, ◌<◌, ◌≡◌, refl, List, [], ◌∷◌, ◌⊎◌, ◌↔◌, drop}
+use Rattle.std.specs.Prelude.{ℕ, zero, suc, ◌+◌, ◌-◌, ◌*◌, ◌<◌, ◌≡◌, refl, List, [], ◌∷◌, ◌↔◌, drop}
 use Rattle.std.proofs.Common.{sym, ap, subst, ◌∙◌, inl, inr, ⊎_elim}
 use native.Mathlib.Omega.{arith}
 use Rattle.std.proofs.Math.ListN.{length}
@@ -8,14 +8,11 @@ use Rattle.rules.specs.Sets.{word}
 use Rattle.rules.specs.Outcome.{accepted}
 use Rattle.rules.specs.Sheet.{Sheet, read_sheet, pair_bytes}
 use Rattle.sheet_laws.specs.Conditions.{Linked, B, P, N, first, second}
+use Rattle.sheet_laws.specs.Said.{Joins}
 use Rattle.sheet_laws.specs.Rising.{In}
 use Rattle.sheet_laws.proofs.Pairs.{Pair, pair, flat}
 use Rattle.sheet_laws.proofs.Links.{made_in, in_made}
 use Rattle.sheet_laws.proofs.Accepted.{Accepted, accepted_sheet}
-
--- pair k names the boxes i and j, in either order
-abbrev pub Joins : List ℕ → ℕ → ℕ → ℕ → Type 0
-Joins s k i j = ((first s k ≡ i) × (second s k ≡ j)) ⊎ ((first s k ≡ j) × (second s k ≡ i))
 
 -- ---- an entry of a list of pairs stands at a place of its bytes
 

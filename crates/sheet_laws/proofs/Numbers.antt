@@ -1,12 +1,13 @@
 -- The lines in plain words, and the numbers that the calls answer for 16 boxes: 0 exactly where no line applies, n exactly where the first that applies has
 -- number n. Assumes nothing.
-use Rattle.std.specs.Prelude.{ℕ, zero, suc, ◌+◌, ◌≤◌, ◌<◌, ◌≡◌, refl, List, [], ◌∷◌, ◌++◌, ◌↔◌, length}
+use Rattle.std.specs.Prelude.{ℕ, zero, suc, ◌≤◌, ◌≡◌, refl, List, [], ◌∷◌, ◌++◌, ◌↔◌, length}
 use Rattle.std.proofs.Common.{sym, subst, inl, inr, ⊎_elim, arith, lit≤}
 use Rattle.std.proofs.Math.Decide.{ℕ_discrete}
 use Rattle.rules.specs.Outcome.{Outcome, refused, accepted}
 use Rattle.rules.specs.Sheet.{Sheet, read_sheet, write_sheet, most_links}
 use Rattle.rules.specs.Calls.{reading, read_answer, write_answer, allowance_answer, read_call, write_call, allowance_call, boxes_most}
-use Rattle.sheet_laws.specs.Conditions.{Line, line, First, None, P, Cond6, Cond7, Cond8, pair_lines, sheet_lines, read_lines, write_lines, Words}
+use Rattle.sheet_laws.specs.Conditions.{Line, First, None, P, pair_lines, sheet_lines, read_lines, write_lines, Words}
+use Rattle.sheet_laws.specs.Said.{Counted, FirstPair, lines_at}
 use Rattle.sheet_laws.specs.Answers.{Answers, clash, first_append}
 use Rattle.sheet_laws.proofs.Refusals.{read_sheet_answers, reading_answers, write_sheet_answers}
 
@@ -15,15 +16,6 @@ pub most_links_lem : most_links boxes_most ≡ 120
 most_links_lem = refl
 
 -- ---- "pair by pair 6 to 8": at the first place where one of them applies, and there the first of them
-
-abbrev pub lines_at : List ℕ → ℕ → List Line
-lines_at s i = line 6 i (Cond6 s i) ∷ line 7 i (Cond7 s i) ∷ line 8 i (Cond8 s i) ∷ []
-
-pub record FirstPair (s : List ℕ) (i m n p : ℕ) : Type 0 where
-  pub from : i ≤ p
-  pub until : p < i + m
-  pub before : (j : ℕ) → i ≤ j → j < p → None (lines_at s j)
-  pub there : First (lines_at s p) n p
 
 at_place : (s : List ℕ) (i n p : ℕ) → First (lines_at s i) n p → p ≡ i
 at_place s i n p =
@@ -82,11 +74,6 @@ Numbered (l ∷ ls) = (1 ≤ l.number) × Numbered ls
 numbered_first : (ls : List Line) (n p : ℕ) → Numbered ls → First ls n p → 1 ≤ n
 numbered_first [] n p h = λ z. absurd z
 numbered_first (l ∷ ls) n p h = ⊎_elim (λ u. let (c, e, f) = u in omega (arith, h.0)) (λ u. numbered_first ls n p h.1 u.1)
-
--- an answer's number says which line applies first
-pub record Counted (number : ℕ) (ls : List Line) : Type 0 where
-  pub zero_none : (number ≡ 0) ↔ None ls
-  pub first_number : (n : ℕ) → (number ≡ suc n) ↔ ((p : ℕ) × First ls (suc n) p)
 
 pub counted : {A : Type 0} (o : Outcome A) (ls : List Line) → Numbered ls → Answers o ls → Counted (number_of o) ls
 counted (refused m q) ls h a =

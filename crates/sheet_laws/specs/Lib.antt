@@ -1,4 +1,5 @@
 pub mod Conditions
+pub mod Said
 pub mod Answers
 pub mod Rising
 pub mod Counting
