@@ -1,19 +1,24 @@
--- A table stored word by word, and a block's two words and four tables stored one after the other. w is how many words a table has. Assumes nothing.
-use Prim.Native.Nat.{ℕ, suc, ◌+◌, ◌<◌}
+-- A slice copied over, and a block's two words and four tables stored one after the other. w is how many words a table has. Assumes nothing.
+use Prim.Native.Nat.{ℕ, suc, ◌+◌, ◌≤◌}
 use native.Mathlib.Omega.{arith}
-use mathlib.Core.Path.{◌≡◌, sym, ap, ◌∙◌}
-use mathlib.Core.List.{List, [], ◌∷◌, ◌++◌}
-use lib.ListN.{length, length-append, take, get_or, set}
-use lib.Seq.{sets, take-suc, length-take-le}
+use mathlib.Core.Path.{◌≡◌, refl, sym, ap, ◌∙◌}
+use mathlib.Core.List.{List, ◌++◌}
+use lib.ListN.{length, length-append, set}
+use lib.Seq.{sets, take_all, length-sets}
+use borrow.Rule.Slice.PartMut.{put_mid}
+use Rattle.std.proofs.lemmas.List.{drop_all}
+use Rattle.std.proofs.lemmas.List.Edits.{sets-eq}
+use Rattle.std.proofs.lemmas.Slice.{put_mid-paste}
+use Rattle.std.proofs.Common.{length-set, append-nil}
 use Rattle.rules.specs.Box.{Box}
 use Rattle.rules.specs.Hub.{block, block_words}
-use Rattle.sets.specs.Stores.{sets_after}
+use Rattle.sets.specs.Stores.{sets_after, sets_front}
 
--- the table's word k is stored after those before it
-pub word_next : (b t : List ℕ) (at k : ℕ) → k < length t → set (sets b at (take k t)) (at + k) (get_or t k 0) ≡ sets b at (take (suc k) t)
-word_next b t at k l =
-    let e : k ≡ length (take k t) = sym (length-take-le k t (omega arith)) in
-    rw (take-suc t k 0) (ap (λ (n : ℕ). set (sets b at (take k t)) (at + n) (get_or t k 0)) e ∙ sets_after (take k t) (get_or t k 0 ∷ []) b at)
+-- a slice that is copied over
+pub put_sets : (w at : ℕ) (b t : List ℕ) → length t ≡ w → at + w ≤ length b → put_mid at w b t ≡ sets b at t
+put_sets w at b t l m =
+    put_mid-paste at w b t t w refl refl (sym l)
+    ∙ rw (take_all w t (omega (arith, l)), ← l) (sym (sets-eq t b at (omega (arith, l, m))))
 
 -- a box whose tables have w words each
 module _ (w : ℕ) (x : Box) (n : length x.nodes ≡ w) (i : length x.in_spt ≡ w) (o : length x.not_spt ≡ w) where
@@ -33,3 +38,32 @@ module _ (w : ℕ) (x : Box) (n : length x.nodes ≡ w) (i : length x.in_spt ≡
       let fs : s ≡ suc (suc at) + length x.nodes + length x.in_spt + length x.not_spt = omega arith in
       rw
       (fs, fr, fq, fp, f, ← sets_after x.nodes (x.in_spt ++ (x.not_spt ++ x.neighbors)), ← sets_after x.in_spt (x.not_spt ++ x.neighbors), ← sets_after x.not_spt x.neighbors)
+
+  -- a slice of the words for each table, copied over: put_mid is what a write to a slice leaves
+  module _ (l : length x.neighbors ≡ w) (b n' i' o' l' : List ℕ) (s : ℕ) where
+    pub block_put : length b ≡ block_words w → s ≡ x.state → n' ≡ x.nodes → i' ≡ x.in_spt → o' ≡ x.not_spt → l' ≡ x.neighbors
+        → put_mid (2 + w + w + w) w (put_mid (2 + w + w) w (put_mid (2 + w) w (put_mid 2 w (set (set b 0 s) 1 x.hop) n') i') o') l' ≡ block x
+    block_put m es en ei eo el =
+        let b₀ : List ℕ = set (set b 0 x.state) 1 x.hop in
+        let b₁ : List ℕ = sets b₀ 2 x.nodes in
+        let b₂ : List ℕ = sets b₁ (2 + w) x.in_spt in
+        let b₃ : List ℕ = sets b₂ (2 + w + w) x.not_spt in
+        let m₀ : length b₀ ≡ block_words w = simp length-set m in
+        let m₁ : length b₁ ≡ block_words w = length-sets b₀ 2 x.nodes ∙ m₀ in
+        let m₂ : length b₂ ≡ block_words w = length-sets b₁ (2 + w) x.in_spt ∙ m₁ in
+        let m₃ : length b₃ ≡ block_words w = length-sets b₂ (2 + w + w) x.not_spt ∙ m₂ in
+        rw (
+          es,
+          en,
+          ei,
+          eo,
+          el,
+          put_sets w 2 b₀ x.nodes n (omega (arith, m₀)),
+          put_sets w (2 + w) b₁ x.in_spt i (omega (arith, m₁)),
+          put_sets w (2 + w + w) b₂ x.not_spt o (omega (arith, m₂)),
+          put_sets w (2 + w + w + w) b₃ x.neighbors l (omega (arith, m₃)),
+        )
+        (block_stored b 0 2 (2 + w) (2 + w + w) (2 + w + w + w) refl refl refl refl
+        ∙ sets_front (block x) b (omega (arith, m, block_length l))
+        ∙ ap (λ (z : List ℕ). block x ++ z) (drop_all (length (block x)) b (omega (arith, m, block_length l)))
+        ∙ append-nil (block x))

@@ -2,47 +2,33 @@
 // then Nodes(0..15), In_SPT(0..15), Not_SPT(0..15), Neighbors(0..15)". A sleeping box's record is all zero, and so its block is.
 #![tactic(auto)]
 
-ghost use Rattle.std.specs.Prelude.{◌≡◌, ◌+◌, ◌*◌, ◌≤◌, ◌++◌, length, drop, get_or};
-ghost use Rattle.std.proofs.lemmas.List.Edits.{sets};
+ghost use Rattle.std.specs.Prelude.{◌≡◌, ◌*◌, ◌≤◌, ◌++◌, length, drop, get_or};
 ghost use Rattle.rules.specs.Sets.{each};
 ghost use Rattle.rules.specs.Hub.{block, block_words};
-ghost use Rattle.boxes.specs.Record.{box_of, blank};
+ghost use Rattle.boxes.specs.Record.{shown, shown_row, box_of, blank};
 
 use boxes::Record;
 
-// A table's 16 words.
-fn put_table(board: &mut [u16], at: usize, t: [u16; 16])
-    requires { at + 16 ≤ length board.old }
-    ensures { board.new ≡ sets board.old at t }
+// A box's block: state and HOP, then its tables.
+fn put_block(words: &mut [u16], r: &Record)
+    requires { length words.old ≡ 66 }
+    ensures { words.new ≡ block (box_of (shown r.now)) }
 {
-    for k in 0..16 {
-        board[at + k] = t[k];
-    }
-}
-
-// A box's block. That it has 66 words is said of the record, whose tables are known here to have 16 each.
-fn put_block(board: &mut [u16], at: usize, r: Record)
-    requires { at + 66 ≤ length board.old }
-    ensures { (board.new ≡ sets board.old at (block (box_of r))) × (length (block (box_of r)) ≡ block_words 16) }
-{
-    let nodes = r.nodes;
-    let spt = r.in_spt;
-    let not = r.not_spt;
-    let lists = r.neighbors;
-    board[at] = r.state;
-    board[at + 1] = r.hop;
-    put_table(board, at + 2, nodes);
-    put_table(board, at + 18, spt);
-    put_table(board, at + 34, not);
-    put_table(board, at + 50, lists);
+    words[0] = r.state;
+    words[1] = r.hop;
+    words[2..18].copy_from_slice(&r.nodes);
+    words[18..34].copy_from_slice(&r.in_spt);
+    words[34..50].copy_from_slice(&r.not_spt);
+    words[50..66].copy_from_slice(&r.neighbors);
 }
 
 // The blocks of the first boxes of the row, from the board's start. "Words past 66N stay."
-pub fn put_board(row: [Record; 16], boxes: usize, board: &mut [u16])
+pub fn put_board(row: &[Record; 16], boxes: usize, board: &mut [u16])
     requires { (boxes ≤ 16) × (66 * boxes ≤ length board.old) }
-    ensures { board.new ≡ each boxes (λ i. block (box_of (get_or row i blank))) ++ drop (block_words 16 * boxes) board.old }
+    ensures { board.new ≡ each boxes (λ i. block (box_of (get_or (shown_row row.now) i blank))) ++ drop (block_words 16 * boxes) board.old }
 {
-    for i in 0..boxes {
-        put_block(board, 66 * i, row[i]);
+    // by index: of a zip with chunks_exact_mut a proof knows no word of the board afterwards
+    for (i, r) in row[..boxes].iter().enumerate() {
+        put_block(&mut board[66 * i..66 * i + 66], r);
     }
 }

@@ -5,9 +5,8 @@ use Rattle.std.proofs.Common.{arith, ap, ◌∙◌}
 use Rattle.rules.specs.Sets.{mem, without, word, members, for_each}
 use Rattle.rules.specs.Box.{Msg, notspt, neighbors, Box, started, start_sends, take_set, take_sets, before, round_sends, stops, next_hop}
 use Rattle.sets.specs.Loops.{get_d_words, for_each_empty}
-use Rattle.boxes.specs.declared.Record.{Record}
-use Rattle.boxes.specs.declared.Arrival.{Arrival}
-use Rattle.boxes.specs.Record.{box_of, record_of}
+use Rattle.boxes.specs.Arrival.{Arrival}
+use Rattle.boxes.specs.Record.{Record, box_of, record_of}
 use Rattle.boxes.specs.Step.{woken, taken, hopped, without_each, sets_of, origins_of, no_sets, save_all, is_stopped, saved, settled, rounded, worked, step_def}
 
 -- ---- the step by its cases

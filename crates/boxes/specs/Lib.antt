@@ -1,4 +1,6 @@
 pub mod Record
+pub mod Arrival
+pub mod Departure
 pub mod Step
 pub mod Tables
 pub mod Taking

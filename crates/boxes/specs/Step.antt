@@ -4,10 +4,18 @@
 use Rattle.std.specs.Prelude.{ℕ, suc, ◌%◌, min, Bool, cond, List, eqb, set, replicate}
 use Rattle.rules.specs.Sets.{without, word, words, for_each}
 use Rattle.rules.specs.Box.{Box, started, take_sets, before, stops}
-use Rattle.boxes.specs.declared.Record.{Record}
-use Rattle.boxes.specs.declared.Arrival.{Arrival}
-use Rattle.boxes.specs.declared.Stepped.{Stepped}
-use Rattle.boxes.specs.Record.{box_of, record_of}
+use Rattle.boxes.specs.Arrival.{Arrival}
+use Rattle.boxes.specs.Departure.{Departure, shown_departure}
+use Rattle.boxes.specs.declared.Stepped.{Stepped as Made}
+use Rattle.boxes.specs.Record.{Record, box_of, record_of, shown}
+
+-- the box's record, and what goes out
+pub record Stepped : Type 0 where
+  pub «record» : Record
+  pub out : Departure
+
+abbrev pub shown_step : Made → Stepped
+shown_step s = record { «record» = shown s.«record»; out = shown_departure s.out }
 
 -- "A sleeping receiver starts first."
 unfoldable pub woken : Record → Arrival → Box

@@ -8,8 +8,7 @@ use Rattle.std.proofs.Math.Seq.{set_out}
 use Rattle.rules.specs.Sets.{mem, without, word, least, union, join_at, for_each}
 use Rattle.sets.specs.Loops.{lowest_lt, rest_less, rest_small, rest_done, none_left}
 use Rattle.rules.specs.Box.{Box, take_set, take_sets}
-use Rattle.boxes.specs.declared.Record.{Record}
-use Rattle.boxes.specs.Record.{box_of, record_of}
+use Rattle.boxes.specs.Record.{Record, box_of, record_of}
 use Rattle.boxes.specs.Tables.{join_none, join_join, union_join}
 
 -- the box that q is once Nodes(HOP+1) has what was gained

@@ -3,8 +3,7 @@ use Rattle.std.proofs.Common.{arith, ℕ, ◌-◌, ◌≤◌, ◌≡◌, sym, ap
 use Rattle.std.proofs.lemmas.List.{length-take}
 use Rattle.std.specs.declared.option.Option.{Option}
 use Rattle.std.specs.Io.KnownBytes.{Consumes, IsAtEnd}
-use Rattle.tail.specs.declared.Tail.{Tail}
-use Rattle.tail.specs.Last.{last_of, held, Keeps}
+use Rattle.tail.specs.Last.{Tail, last_of, held, Keeps}
 use Rattle.tail.specs.Chunks.{last_front}
 use Rattle.derowlas.specs.Reading.{SameLast}
 
@@ -14,6 +13,13 @@ same_read None after t s bytes k c = tt
 same_read (Some xs) None t s bytes k c = c
 same_read (Some xs) (Some ys) t s bytes k c =
     rw (k.holds, c) (last_front 244 (held t ++ bytes) ys ∙ ap (λ (l : List ℕ). last_of 244 l) (append_assoc (held t) bytes ys))
+
+-- one read after another
+pub same_then : (a b c : Option (List ℕ)) (t s r : Tail) → SameLast t a s b → SameLast s b r c → SameLast t a r c
+same_then None b c t s r h g = tt
+same_then (Some xs) None c t s r h g = absurd h
+same_then (Some xs) (Some ys) None t s r h g = g
+same_then (Some xs) (Some ys) (Some zs) t s r h g = g ∙ h
 
 held_all : (t : Tail) → t.len ≤ 244 → last_of 244 (held t) ≡ held t
 held_all t h =

@@ -3,81 +3,55 @@
 // text that is printed of them is crate text's. That the text of what is kept is the text of all that was read is `kept_prints` of text.
 #![tactic(auto)]
 
-ghost use Rattle.std.specs.Prelude.{◌≡◌, ◌≤◌, false, IfSome};
+ghost use Rattle.std.specs.Prelude.{◌≡◌, IfOk, IfSome, IsNone};
 ghost use Rattle.std.specs.Io.KnownBytes.{IsAtEnd};
-ghost use Rattle.tail.specs.Last.{last_of, held};
-ghost use Rattle.derowlas.specs.Reading.{SameLast};
+ghost use Rattle.tail.specs.Last.{last_of, held, shown};
+ghost use Rattle.derowlas.specs.Reading.{SameLast, held_after, IfWhole};
 
 use std::io;
 use std::io::Read;
 use tail::Tail;
 
-// What has been read: the last bytes of it, whether there may be more, and whether a read failed.
-#[derive(Drop)]
-struct Input {
-    tail: Tail,
-    open: bool,
-    failed: bool,
+// What has been read, by the last bytes of it: the whole input, or a part of it, after which there may be more.
+enum Input {
+    Whole(Tail),
+    Part(Tail),
 }
 
-// Reads once. What came joins the tail, so that the last bytes of what is held and what is left to read stay the same.
-fn read_some<R: Read>(from: &mut R, t: Tail) -> Input
-    requires { t.len ≤ 244 }
-    ensures within { result.tail.len ≤ 244 }
-    ensures kept { SameLast t (R.remaining from.old) result.tail (R.remaining from.new) }
-    ensures end { result.open ≡ false → result.failed ≡ false → IsAtEnd (R.remaining from.new) }
+// Reads once. What came joins the tail, so that the last bytes of what is held and what is left to read stay the same. At the end of the input
+// nothing came.
+fn read_some<R: Read>(from: &mut R, t: Tail) -> io::Result<Option<Tail>>
+    ensures kept { SameLast (shown t) (R.remaining from.old) (held_after (shown t) result) (R.remaining from.new) }
+    ensures end { IfOk result (λ s. IsNone s → IsAtEnd (R.remaining from.new)) }
 {
     let mut chunk = [0u8; 65536];
-    match from.read(&mut chunk) {
-        Err(_) => Input {
-            tail: t,
-            open: false,
-            failed: true,
-        },
-        Ok(0) => Input {
-            tail: t,
-            open: false,
-            failed: false,
-        },
-        Ok(n) => Input {
-            tail: tail::keep_last(t, &chunk[..n]),
-            open: true,
-            failed: false,
-        },
+    match from.read(&mut chunk)? {
+        0 => Ok(None),
+        n => Ok(Some(t.keep_last(&chunk[..n]))),
     }
 }
 
-// Reads to the end of the input, and holds the last bytes of it. A proved loop has to end, and nothing says that an input does: so the loop counts
-// its turns down, from a number that no run uses up.
-fn read_all<R: Read>(from: &mut R) -> Input
-    ensures within { result.tail.len ≤ 244 }
-    ensures kept { result.open ≡ false → result.failed ≡ false → IfSome (R.remaining from.old) (λ xs. held result.tail ≡ last_of 244 xs) }
+// Reads to the end of the input, and holds the last bytes of it. A proved loop has to end, and nothing says that an input does: so the loop takes a
+// number of turns that no run uses up.
+fn read_all<R: Read>(from: &mut R) -> io::Result<Input>
+    ensures kept { IfWhole result (λ t. IfSome (R.remaining from.old) (λ xs. held t ≡ last_of 244 xs)) }
 {
-    let first = tail::empty();
-    let mut input = Input {
-        tail: first,
-        open: true,
-        failed: false,
-    };
-    let mut turns = u64::MAX;
-    while turns > 0 && input.open {
-        let t = input.tail;
-        input = read_some(from, t);
-        turns -= 1;
+    let mut tail = Tail::empty();
+    for _ in 0..u64::MAX {
+        match read_some(from, tail)? {
+            Some(more) => tail = more,
+            None => return Ok(Input::Whole(tail)),
+        }
     }
-    input
+    Ok(Input::Part(tail))
 }
 
 fn main(rt: HostRuntime) -> io::Result<()> {
     let mut stdin = rt.stdin();
-    let input = read_all(&mut stdin);
-    if input.failed {
+    let Ok(Input::Whole(tail) | Input::Part(tail)) = read_all(&mut stdin) else {
         return rt.eprintln("derowlas: standard input can't be read");
-    }
-    let t = input.tail;
-    let bytes = t.bytes;
-    let len = t.len;
+    };
     let mut out = [0u8; 4096];
-    let n = text::put_text(&bytes[..len], &mut out);
+    let n = text::put_text(tail.held(), &mut out);
     rt.write_all(&out[..n])
 }

@@ -21,13 +21,11 @@ use Rattle.order.specs.Sums.{sum_flat}
 use Rattle.order.proofs.Sent.{sent_low}
 use Rattle.boxes.specs.Record.{box_of, blank}
 use Rattle.turn.specs.Turn.{Turn}
-use Rattle.turns.specs.declared.Ran.{Ran as Own}
 use Rattle.turns.specs.Turns.{Going, own_def}
-use Rattle.turns.specs.Parts.{ran_of}
+use Rattle.turns.specs.Parts.{Ran as Own, ran_of}
 use Rattle.shows.specs.Shows.{Shows}
 use Rattle.shows.specs.Runs.{own_shows}
-use Rattle.hub.specs.declared.Answer.{Answer}
-use Rattle.hub.specs.Answers.{answer_of, no_answer}
+use Rattle.hub.proofs.CallLaws.{told}
 
 few_wires : (t : List ℕ) → wire_count 16 t ≤ 256
 unfolding wire_count wires_of
@@ -78,29 +76,30 @@ module _ (t : List ℕ) (T : Table 16 t) (list : List ℕ) (M : Names 16 t list)
     abbrev answered : Ran
     answered = hub_answer 16 n board (fitting 16 n board ended)
 
-    pub board_short : (r : Answer) → r ≡ no_answer 12 → length board < 66 * n → answer_of r board ≡ answered
+    pub board_short : length board < 66 * n → told 12 board ≡ answered
     unfolding fitting hub_answer refuse
-    board_short r e h = ap (λ (x : Answer). answer_of x board) e ∙ sym (ap (λ (b : Bool). hub_answer 16 n board (refuse b 12 0 (refuse ended.full 13 0 (accepted ended)))) (lt-ltb (length board) (66 * n) h))
+    board_short h = sym (ap (λ (b : Bool). hub_answer 16 n board (refuse b 12 0 (refuse ended.full 13 0 (accepted ended)))) (lt-ltb (length board) (66 * n) h))
 
-    pub wire_full : (r : Answer) → r ≡ no_answer 13 → 66 * n ≤ length board → c.full ≡ true → answer_of r board ≡ answered
+    pub wire_full : 66 * n ≤ length board → c.full ≡ true → told 13 board ≡ answered
     unfolding fitting hub_answer refuse
-    wire_full r e h f =
-        ap (λ (x : Answer). answer_of x board) e
-        ∙ sym (ap₂ (λ (b d : Bool). hub_answer 16 n board (refuse b 12 0 (refuse d 13 0 (accepted ended)))) (le-ltb (length board) (66 * n) h) (sym shown.full ∙ f))
+    wire_full h f = sym (ap₂ (λ (b d : Bool). hub_answer 16 n board (refuse b 12 0 (refuse d 13 0 (accepted ended)))) (le-ltb (length board) (66 * n) h) (sym shown.full ∙ f))
 
-    pub all_done : (r : Answer) (after : List ℕ) → 66 * n ≤ length board → c.full ≡ false
-        → after ≡ each n (λ i. block (box_of (get_or (own_def list t budget).row i blank))) ++ drop (66 * n) board
-        → r ≡ record { number = 0; sent = c.sent; moved = c.moved; under_way = c.sent - c.moved; finished = eqb (c.sent - c.moved) 0 } → answer_of r after ≡ answered
+    -- the counts, and the board that is left
+    abbrev done : Turn → List ℕ → Ran
+    done y after = record { number = 0; sent = y.sent; moved = y.moved; under_way = y.sent - y.moved; finished = eqb (y.sent - y.moved) 0; board = after }
+
+    pub all_done : (after : List ℕ) → 66 * n ≤ length board → c.full ≡ false
+        → after ≡ each n (λ i. block (box_of (get_or (own_def list t budget).row i blank))) ++ drop (66 * n) board → done c after ≡ answered
     unfolding fitting hub_answer refuse board_of
-    all_done r after h f b e =
-        ap₂ answer_of e (b ∙ ap (λ (l : List ℕ). l ++ drop (66 * n) board) (blocks_are t T (own_def list t budget) ended shown kept n hn))
-        ∙ told (sent_is t T (own_def list t budget) ended shown kept) (moved_is t T (own_def list t budget) ended shown kept) (under_is t T (own_def list t budget) ended shown kept)
+    all_done after h f b =
+        ap (done c) (b ∙ ap (λ (l : List ℕ). l ++ drop (66 * n) board) (blocks_are t T (own_def list t budget) ended shown kept n hn))
+        ∙ counted (sent_is t T (own_def list t budget) ended shown kept) (moved_is t T (own_def list t budget) ended shown kept) (under_is t T (own_def list t budget) ended shown kept)
         ∙ sym (ap₂ (λ (b d : Bool). hub_answer 16 n board (refuse b 12 0 (refuse d 13 0 (accepted ended)))) (le-ltb (length board) (66 * n) h) (sym shown.full ∙ f))
       where
-        told : c.sent ≡ ended.sent → c.moved ≡ ended.moved → c.sent - c.moved ≡ under_way 16 ended
-            → ◌≡◌ {A = Ran} (record { number = 0; sent = c.sent; moved = c.moved; under_way = c.sent - c.moved; finished = eqb (c.sent - c.moved) 0; board = board_of 16 n ended board })
+        counted : c.sent ≡ ended.sent → c.moved ≡ ended.moved → c.sent - c.moved ≡ under_way 16 ended
+            → ◌≡◌ {A = Ran} (done c (board_of 16 n ended board))
             (record { number = 0; sent = ended.sent; moved = ended.moved; under_way = under_way 16 ended; finished = eqb (under_way 16 ended) 0; board = board_of 16 n ended board })
-        told x y z = λ i. record { number = 0; sent = x i; moved = y i; under_way = z i; finished = eqb (z i) 0; board = board_of 16 n ended board }
+        counted x y z = λ i. record { number = 0; sent = x i; moved = y i; under_way = z i; finished = eqb (z i) 0; board = board_of 16 n ended board }
 
   -- ---- the same of what the owner answers
 
@@ -109,16 +108,15 @@ module _ (t : List ℕ) (T : Table 16 t) (list : List ℕ) (M : Names 16 t list)
     own_less = subst (λ (y : Own). y.turn.moved ≤ y.turn.sent) (sym e) less
 
     module _ (n : ℕ) (hn : n ≤ 16) (board : List ℕ) (long : 66 * n ≤ length board) where
-      pub own_full : (r : Answer) → r ≡ no_answer 13 → x.turn.full ≡ true → answer_of r board ≡ hub_answer 16 n board (fitting 16 n board ended)
-      own_full r f u = wire_full n hn board r f long (sym (ap (λ (y : Own). y.turn.full) e) ∙ u)
+      pub own_full : x.turn.full ≡ true → told 13 board ≡ hub_answer 16 n board (fitting 16 n board ended)
+      own_full u = wire_full n hn board long (sym (ap (λ (y : Own). y.turn.full) e) ∙ u)
 
       pub own_done : (after : List ℕ) → x.turn.full ≡ false → after ≡ each n (λ i. block (box_of (get_or x.row i blank))) ++ drop (66 * n) board
-          → answer_of (record { number = 0; sent = x.turn.sent; moved = x.turn.moved; under_way = x.turn.sent - x.turn.moved; finished = eqb (x.turn.sent - x.turn.moved) 0 }) after
-          ≡ hub_answer 16 n board (fitting 16 n board ended)
+          → ◌≡◌ {A = Ran} (record { number = 0; sent = x.turn.sent; moved = x.turn.moved; under_way = x.turn.sent - x.turn.moved; finished = eqb (x.turn.sent - x.turn.moved) 0; board = after })
+          (hub_answer 16 n board (fitting 16 n board ended))
       own_done after u b =
-          all_done n hn board _ after long (sym (ap (λ (y : Own). y.turn.full) e) ∙ u)
-          (b ∙ ap (λ (y : Own). each n (λ i. block (box_of (get_or y.row i blank))) ++ drop (66 * n) board) e)
-          (ap (λ (y : Own). told y) e)
+          ap (λ (y : Own). counts y) e
+          ∙ all_done n hn board after long (sym (ap (λ (y : Own). y.turn.full) e) ∙ u) (b ∙ ap (λ (y : Own). each n (λ i. block (box_of (get_or y.row i blank))) ++ drop (66 * n) board) e)
         where
-          told : Own → Answer
-          told y = record { number = 0; sent = y.turn.sent; moved = y.turn.moved; under_way = y.turn.sent - y.turn.moved; finished = eqb (y.turn.sent - y.turn.moved) 0 }
+          counts : Own → Ran
+          counts y = record { number = 0; sent = y.turn.sent; moved = y.turn.moved; under_way = y.turn.sent - y.turn.moved; finished = eqb (y.turn.sent - y.turn.moved) 0; board = after }

@@ -1,2 +1,2 @@
-pub mod HubLaws
 pub mod CallLaws
+pub mod HubLaws

@@ -2,19 +2,14 @@
 use Prim.Native.Nat.{ℕ, ◌+◌, ◌≤◌, ◌<◌}
 use native.Mathlib.Omega.{arith}
 use mathlib.Core.Path.{◌≡◌}
-use mathlib.Core.List.{[], ◌∷◌}
 use lib.ListN.{length, length-append}
 use Rattle.lines.specs.declared.Word.{Word}
 use Rattle.lines.specs.declared.Word.TheVariants as words
 use Rattle.lines.specs.Words.{word_of, word_line}
-use Rattle.lines.specs.Lines.{decimal, field, heading, line, refusal}
+use Rattle.lines.specs.Lines.{field, heading, line, refusal}
 use Rattle.lines.proofs.NumberLaws.{field_any, field_most}
 
 -- ---- part by part
-
-pub field_length : (n end : ℕ) → length (field n end) ≡ length (decimal n) + 1
-unfolding field
-field_length n end = length-append (decimal n) (end ∷ [])
 
 pub line_length : (i j hops from : ℕ) → length (line i j hops from) ≡ length (field i 32) + (length (field j 32) + (length (field hops 32) + length (field from 10)))
 unfolding line

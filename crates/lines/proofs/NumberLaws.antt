@@ -8,6 +8,7 @@ use mathlib.Core.List.{List, [], ◌∷◌}
 use borrow.Author.Tests.{ltb-true, lt-ltb}
 use lib.Dec.{ltb}
 use lib.ListN.{length, length-append, take}
+use lib.Seq.{length-take-le}
 use Rattle.io.specs.Digits.{last_digits, IsDigitCount, hex_digit_ascii}
 use Rattle.rules.specs.Sets.{least}
 use Rattle.sets.specs.Loops.{least_le, least_hit}
@@ -54,6 +55,11 @@ module _ (n : ℕ) where
       omega (arith, length-append (last_digits 10 p n) (end ∷ []), digits_length 10 p n, (least_hit 20 holds_in k l (lt-ltb n (10 ^ suc k) h)).0)
 
 -- what `io::decimal` leaves at the start of its array is the number
-pub digits_are : (n r : ℕ) (xs : List ℕ) → n < 10 ^ 20 → IsDigitCount 10 1 n r → take r xs ≡ last_digits 10 r n → take r xs ≡ decimal n
+pub digits_are : (n k : ℕ) (out : List ℕ) → n < 10 ^ 20 → IsDigitCount 10 1 n k → take k out ≡ last_digits 10 k n → take k out ≡ decimal n
 unfolding decimal
-digits_are n r xs l f e = e ∙ ap (λ (k : ℕ). last_digits 10 k n) (fewest_places n r (places_most n l r f) f)
+digits_are n k out l f e = e ∙ ap (λ (r : ℕ). last_digits 10 r n) (fewest_places n k (places_most n l k f) f)
+
+-- and so many they are
+pub digits_count : (n k end : ℕ) (out : List ℕ) → k ≤ length out → take k out ≡ decimal n → length (field n end) ≡ k + 1
+unfolding field
+digits_count n k end out l e = omega (arith, length-append (decimal n) (end ∷ []), ap length e, length-take-le k out l)

@@ -1,6 +1,7 @@
 -- A list's check as one number, and a start set as a list. Definitions alone.
-use Rattle.std.specs.Prelude.{ℕ, ◌%◌, not, ◌&&◌, ◌||◌, cond, List, [], ◌∷◌, eqb, ltb, leb, length}
+use Rattle.std.specs.Prelude.{ℕ, ◌%◌, not, ◌&&◌, ◌||◌, cond, List, [], ◌∷◌, eqb, ltb, leb, length, take}
 use Rattle.rules.specs.Sets.{mem, word, each}
+use Rattle.lists.specs.declared.starts.Starts.{Starts}
 use Rattle.rules.specs.Calls.{longest_list}
 
 -- the number that a pair of the list is refused with, 0 where it is not
@@ -19,3 +20,7 @@ list_number n t l = cond (eqb (length l % 2) 1 || ltb longest_list (length l)) 9
 -- a set of boxes to start, as the pairs of a list, ascending
 unfoldable pub start_pairs : ℕ → ℕ → List ℕ
 start_pairs n s = each n (λ i. cond (mem i s) (i ∷ i ∷ []) [])
+
+-- the list that such a set is kept as
+abbrev pub list_of : Starts → List ℕ
+list_of s = take s.len s.room

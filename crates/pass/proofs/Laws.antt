@@ -1,6 +1,6 @@
 -- Turns that touch no record: what a look at a pair shows comes to what the turn's definition takes; such turns, one after the other, as many as are left; and what
 -- the calls of a look come to. Assumes nothing.
-use Prim.Native.Nat.{ℕ, zero, suc, ◌*◌, ◌-◌, ◌^◌, ◌<◌, ◌≤◌}
+use Prim.Native.Nat.{ℕ, zero, suc, ◌-◌, ◌^◌, ◌<◌, ◌≤◌}
 use native.Mathlib.Omega.{arith}
 use mathlib.Core.Path.{◌≡◌, refl, sym, ap, ◌∙◌, subst}
 use mathlib.Core.Bool.{Bool, true, false, not, ◌&&◌, ◌||◌, cond, true≢false}
@@ -8,22 +8,20 @@ use mathlib.Core.List.{List}
 use lib.Bits.{bit_or}
 use lib.Dec.{eqb, ltb}
 use lib.ListN.{length, set}
-use borrow.Author.Tests.{eq-eqb, ne_eqb, eqb-true, eqb-false, not-true}
+use borrow.Author.Tests.{ne_eqb, eqb-true, eqb-false, not-true}
 use Rattle.rules.specs.Sets.{mem, word}
 use Rattle.sets.specs.Loops.{by_bool, pick}
 use Rattle.wires.specs.Words.{is_list}
 use Rattle.wires.specs.Wires.{sixteen, place, queued, under_way, arrived, oldest, front, skipped}
-use Rattle.boxes.specs.declared.Departure.{Departure}
 use Rattle.mail.specs.Gather.{wire_of}
 use Rattle.tables.specs.Tables.{links_of, heard_of, busy_of, with_heard, with_busy}
 use Rattle.tables.proofs.Laws.{Same, arrived_same, skipped_same, same_links, same_heard, same_busy, same_refl, both_links, both_heard, both_busy}
-use Rattle.turn.specs.declared.Carried.{Carried}
-use Rattle.turn.specs.declared.Pair.{Pair}
-use Rattle.turn.specs.declared.Receiver.{Receiver}
-use Rattle.pass.specs.declared.Glance.{Glance}
-use Rattle.turn.specs.Turn.{Turn, turn_of, less_of, pair_of, next_pair, sleeps, quiet, begun, took_pair, Took, Put, next_turn, put_def}
-use Rattle.turn.specs.Parts.{took, receiver_of, quiet_to, first_to, delivered_to, left_after, at_after, moved_after}
-use Rattle.pass.specs.Pass.{Glanced, glanced, seen_as, glance_first, glance_to, glance_pair, kept, carried_on, glance_at, to_after, quiet_turn, quiet_store, pass_one, pass_to, pass_all}
+use Rattle.turn.specs.declared.Carried.{Carried as CarriedCode}
+use Rattle.turn.specs.Turn.{Turn, Pair, less_of, pair_of, next_pair, sleeps, quiet, begun, took_pair, Took, Put}
+use Rattle.turn.specs.Parts.{Receiver, took, receiver_of, quiet_to, first_to, delivered_to, left_after}
+use Rattle.turn.specs.Code.{turn_with, gone_on}
+use Rattle.pass.specs.Code.{carried_with}
+use Rattle.pass.specs.Pass.{Glance, Glanced, glanced, seen_as, glance_first, glance_to, glance_pair, glance_at, to_after, quiet_turn, quiet_store, pass_one, pass_to, pass_all}
 use Rattle.turn.proofs.Laws.{delivered_is}
 
 -- ---- a look at a pair, and what the turn's definition takes for it
@@ -63,14 +61,14 @@ module _ (r : Receiver) (a : ℕ) (s s₁ s₂ : List ℕ) (heard more : ℕ) (k
   looked_taken false false false true false false false h e = refl
   looked_taken false false false false list list' all h e = refl
 
-  looked_still : (way stopped sleeps none list all : Bool) → (Looked way stopped sleeps none list all).glance.quiet ≡ false → (Looked way stopped sleeps none list all).store ≡ s
-  looked_still true stopped sleeps none list all e = absurd (true≢false e)
-  looked_still false true sleeps none list all e = absurd (true≢false e)
-  looked_still false false true none list all e = refl
-  looked_still false false false true true all e = refl
-  looked_still false false false true false true e = refl
-  looked_still false false false true false false e = absurd (true≢false e)
-  looked_still false false false false list all e = absurd (true≢false e)
+  looked_same : (way stopped sleeps none list all : Bool) → (Looked way stopped sleeps none list all).glance.quiet ≡ false → (Looked way stopped sleeps none list all).store ≡ s
+  looked_same true stopped sleeps none list all e = absurd (true≢false e)
+  looked_same false true sleeps none list all e = absurd (true≢false e)
+  looked_same false false true none list all e = refl
+  looked_same false false false true true all e = refl
+  looked_same false false false true false true e = refl
+  looked_same false false false true false false e = absurd (true≢false e)
+  looked_same false false false false list all e = absurd (true≢false e)
 
 -- behind an empty queue the oldest under way stands where the queue's head would
 front_oldest : (s : List ℕ) (i : ℕ) → eqb (under_way sixteen s i) 0 ≡ false → eqb (queued sixteen s i) 0 ≡ true → front sixteen s i ≡ oldest sixteen s i
@@ -92,7 +90,7 @@ glance_still : (r : Receiver) (a : ℕ) (s : List ℕ) → (glance_to r a s).gla
 unfolding glance_to glance_first
 glance_still r a s e =
     let i : ℕ = wire_of a r.own in
-    looked_still r a s (skipped sixteen s i) (arrived sixteen s i) r.heard (bit_or r.heard (2 ^ a)) (took s (quiet_to r a false false 0)) (took s (quiet_to r a false false 0))
+    looked_same r a s (skipped sixteen s i) (arrived sixteen s i) r.heard (bit_or r.heard (2 ^ a)) (took s (quiet_to r a false false 0)) (took s (quiet_to r a false false 0))
     (eqb (under_way sixteen s i) 0) r.stopped r.sleeps (eqb (queued sixteen s i) 0) (is_list (front sixteen s i)) (eqb (bit_or r.heard (2 ^ a)) r.links) e
 
 -- a look leaves the tables
@@ -183,92 +181,27 @@ pass_next list q l e =
     let z : q.turn.left ≡ suc (q.turn.left - 1) = omega arith in
     ap (λ (n : ℕ). pass_to n list q) z ∙ pass_more list (q.turn.left - 1) q z e
 
--- ---- what the calls of a look come to
+-- ---- a turn that passes
 
-module _ (r : Receiver) (a : ℕ) (s : List ℕ) (x : ℕ) (t : Bool) (ex : x ≡ front sixteen s (wire_of a r.own)) (et : t ≡ is_list x) where
-  pub first_listed : (k : Glance) → t ≡ true → k ≡ seen_as false false r.heard → glanced s k ≡ glance_first r a s
-  unfolding glance_first
-  first_listed k y e = let i : is_list (front sixteen s (wire_of a r.own)) ≡ true = ap is_list (sym ex) ∙ sym et ∙ y in rw (i, e)
-
-  module _ (no : t ≡ false) (o : ℕ) (eo : o ≡ 2 ^ a) where
-    set_there : is_list (front sixteen s (wire_of a r.own)) ≡ false
-    set_there = ap is_list (sym ex) ∙ sym et ∙ no
-
-    pub first_all : (k : Glance) → bit_or r.heard o ≡ r.links → k ≡ seen_as false false r.heard → glanced s k ≡ glance_first r a s
-    unfolding glance_first
-    first_all k all e =
-        let f : eqb (bit_or r.heard (2 ^ a)) r.links ≡ true = eq-eqb _ _ (rw eo at all) in
-        rw (set_there, f, e)
-
-    pub first_waits : (s' : List ℕ) (k : Glance) → (bit_or r.heard o ≡ r.links → ⊥) → s' ≡ arrived sixteen s (wire_of a r.own) → k ≡ seen_as true true (bit_or r.heard o)
-        → glanced s' k ≡ glance_first r a s
-    unfolding glance_first
-    first_waits s' k some es e =
-        let f : eqb (bit_or r.heard (2 ^ a)) r.links ≡ false = ne_eqb _ _ (rw eo at some) in
-        rw (set_there, f, es, e, eo)
-
-module _ (r : Receiver) (a : ℕ) (s : List ℕ) (n : ℕ) (en : n ≡ under_way sixteen s (wire_of a r.own)) where
-  pub look_none : (k : Glance) → n ≡ 0 → k ≡ seen_as true false r.heard → glanced s k ≡ glance_to r a s
-  unfolding glance_to
-  look_none k z e = let w : eqb (under_way sixteen s (wire_of a r.own)) 0 ≡ true = eq-eqb _ _ (sym en ∙ z) in rw (w, e)
-
-  module _ (some : n ≡ 0 → ⊥) where
-    some_way : eqb (under_way sixteen s (wire_of a r.own)) 0 ≡ false
-    some_way = ne_eqb _ _ (λ z. some (en ∙ z))
-
-    pub look_drops : (s' : List ℕ) (k : Glance) → r.stopped ≡ true → s' ≡ skipped sixteen s (wire_of a r.own) → k ≡ seen_as true true r.heard → glanced s' k ≡ glance_to r a s
-    unfolding glance_to
-    look_drops s' k y es e = rw (some_way, y, es, e)
-
-    module _ (go : r.stopped ≡ false) where
-      pub look_wakes : (k : Glance) → r.sleeps ≡ true → k ≡ seen_as false false r.heard → glanced s k ≡ glance_to r a s
-      unfolding glance_to
-      look_wakes k y e = rw (some_way, go, y, e)
-
-      module _ (awake : r.sleeps ≡ false) (q : ℕ) (eq : q ≡ queued sixteen s (wire_of a r.own)) where
-        pub look_empty : (g : Glanced) → q ≡ 0 → g ≡ glance_first r a s → g ≡ glance_to r a s
-        unfolding glance_to glance_first
-        look_empty g z e = let w : eqb (queued sixteen s (wire_of a r.own)) 0 ≡ true = eq-eqb _ _ (sym eq ∙ z) in rw (some_way, go, awake, w) e
-
-        pub look_behind : (s' : List ℕ) (k : Glance) → (q ≡ 0 → ⊥) → s' ≡ arrived sixteen s (wire_of a r.own) → k ≡ seen_as true true r.heard → glanced s' k ≡ glance_to r a s
-        unfolding glance_to
-        look_behind s' k more es e = let w : eqb (queued sixteen s (wire_of a r.own)) 0 ≡ false = ne_eqb _ _ (λ z. more (eq ∙ z)) in rw (some_way, go, awake, w, es, e)
-
-module _ (p : Pair) (r : Receiver) (s : List ℕ) where
-  pub at_start : (k : Glance) → p.some ≡ true → p.«from» ≡ r.own → k ≡ seen_as (not r.sleeps) false r.heard → glanced s k ≡ glance_pair p r s
-  unfolding glance_pair
-  at_start k y f e = let t : eqb p.«from» r.own ≡ true = eq-eqb _ _ f in rw (y, t, e)
-
-  pub at_wire : (g : Glanced) → p.some ≡ true → (p.«from» ≡ r.own → ⊥) → g ≡ glance_to r p.«from» s → g ≡ glance_pair p r s
-  unfolding glance_pair
-  at_wire g y f e = let t : eqb p.«from» r.own ≡ false = ne_eqb _ _ f in rw (y, t) e
-
-  pub at_none : (k : Glance) → p.some ≡ false → k ≡ seen_as false false r.heard → glanced s k ≡ glance_pair p r s
-  unfolding glance_pair
-  at_none k n e = rw (n, e)
-
--- the same of the whole state
-module _ (list s s' : List ℕ) (q : Carried) (p : Pair) (r : Receiver) (k : Glance) (ep : p ≡ pair_of list q.at q.pairs (busy_of s))
-    (er : r ≡ receiver_of (turn_of q s) p.to) (eg : glanced s' k ≡ glance_pair p r s) where
+-- the pair that is served and its receiver, and what is seen of them
+module _ (list s s' : List ℕ) (q : CarriedCode) (pairs : ℕ) (p : Pair) (r : Receiver) (k : Glance) (ep : p ≡ pair_of list q.at pairs (busy_of s))
+    (er : r ≡ receiver_of (turn_with q pairs s) p.to) (eg : glanced s' k ≡ glance_pair p r s) where
   abbrev t : Turn
-  t = turn_of q s
+  t = turn_with q pairs s
 
-  pub looked_at : glanced s' k ≡ glance_at list (carried_on s q)
+  looked_at : glanced s' k ≡ glance_at list (carried_with s q pairs)
   unfolding glance_at next_pair
   looked_at = eg ∙ ap (λ (z : Receiver). glance_pair p z s) er ∙ ap (λ (z : Pair). glance_pair z (receiver_of t z.to) s) ep
 
-  -- a pair that would touch a record ends it
-  pub pass_ends : (start : Put) → k.quiet ≡ false → pass_all list (carried_on s q) ≡ pass_all list start → carried_on s' q ≡ pass_all list start
-  pass_ends start n inv =
-      let no : (glance_at list (carried_on s q)).glance.quiet ≡ false = ap (λ (z : Glanced). z.glance.quiet) (sym looked_at) ∙ n in
-      let same : s' ≡ s = ap (λ (z : Glanced). z.store) looked_at ∙ glance_keeps list (carried_on s q) no in
-      ap (λ (z : List ℕ). carried_on z q) same ∙ sym (pass_stops q.left list (carried_on s q) no) ∙ inv
+  pub looked_quiet : (quiet : Bool) → k.quiet ≡ quiet → (glance_at list (carried_with s q pairs)).glance.quiet ≡ quiet
+  looked_quiet quiet e = ap (λ (z : Glanced). z.glance.quiet) (sym looked_at) ∙ e
 
-  abbrev onward : ℕ → ℕ → ℕ → Carried
-  onward left at moved = record { left = left; at = at; pairs = q.pairs; sent = q.sent; moved = moved; awake = q.awake; stopped = q.stopped; full = q.full }
+  -- a pair that would touch a record leaves the store
+  pub looked_still : k.quiet ≡ false → s' ≡ s
+  looked_still e = ap (λ (z : Glanced). z.store) looked_at ∙ glance_keeps list (carried_with s q pairs) (looked_quiet false e)
 
-  module _ (size : length s' ≡ 9264) (low_a : p.«from» < 16) (low_b : p.to < 16) (lh : k.heard < 65536) (to at_a : ℕ) (lt : to < 65536)
-      (ea : at_a ≡ word (busy_of s') p.«from») (et : to ≡ less_of s' k.moved p.«from» p.to at_a) where
+  module _ (size : length s' ≡ 9264) (low_a : p.«from» < 16) (low_b : p.to < 16) (lh : k.heard < 65536) (to : ℕ) (lt : to < 65536)
+      (et : to ≡ less_of s' k.moved p.«from» p.to (word (busy_of s') p.«from»)) where
     abbrev v : List ℕ
     v = with_busy (with_heard s' p.to k.heard) p.«from» to
 
@@ -276,7 +209,7 @@ module _ (list s s' : List ℕ) (q : Carried) (p : Pair) (r : Receiver) (k : Gla
     same = subst (Same s) (sym (ap (λ (z : Glanced). z.store) eg)) (pair_same p r s)
 
     to_is : to ≡ to_after t p k s'
-    to_is = et ∙ ap (less_of s' k.moved p.«from» p.to) (ea ∙ ap (λ (z : List ℕ). word z p.«from») (same_busy s s' same))
+    to_is = et ∙ ap (λ (z : List ℕ). less_of s' k.moved p.«from» p.to (word z p.«from»)) (same_busy s s' same)
 
     links_is : links_of v ≡ links_of s
     links_is = both_links s' p.«from» p.to k.heard to size low_a low_b lh lt ∙ same_links s s' same
@@ -287,23 +220,6 @@ module _ (list s s' : List ℕ) (q : Carried) (p : Pair) (r : Receiver) (k : Gla
     busy_is : busy_of v ≡ set (busy_of s) p.«from» to
     busy_is = both_busy s' p.«from» p.to k.heard to size low_a low_b lh lt ∙ ap (λ (z : List ℕ). set z p.«from» to) (same_busy s s' same)
 
-    pub pass_goes_on : (w : List ℕ) (start : Put) (left at moved : ℕ) → w ≡ v → 1 ≤ q.left → k.quiet ≡ true → pass_all list (carried_on s q) ≡ pass_all list start
-        → left ≡ left_after q.left q.at q.pairs k.moved → at ≡ at_after q.at q.pairs → moved ≡ moved_after q.moved k.moved
-        → pass_all list (carried_on w (onward left at moved)) ≡ pass_all list start
+    pub passed : (w : List ℕ) (n : CarriedCode) → w ≡ v → n ≡ gone_on q pairs k.moved → carried_with w n pairs ≡ pass_one list (carried_with s q pairs)
     unfolding pass_one quiet_turn quiet_store next_pair
-    pass_goes_on w start left at moved ew some y inv el ea em =
-        let yes : (glance_at list (carried_on s q)).glance.quiet ≡ true = ap (λ (z : Glanced). z.glance.quiet) (sym looked_at) ∙ y in
-        let one : carried_on v (onward left at moved) ≡ pass_one list (carried_on s q) = rw (← looked_at, ← ep, links_is, heard_is, busy_is, el, ea, em, ← to_is) in
-        ap (λ (z : List ℕ). pass_all list (carried_on z (onward left at moved))) ew ∙ ap (pass_all list) one ∙ sym (pass_next list (carried_on s q) some yes) ∙ inv
-
--- ---- what goes out, and those that pass after it
-
-pub put_pairs : (s s' list : List ℕ) (o : Departure) (c n : Carried) → turn_of n s' ≡ (put_def s o (turn_of c s)).turn → c.pairs * 2 ≤ length list → n.pairs * 2 ≤ length list
-unfolding put_def next_turn
-put_pairs s s' list o c n e l = let z : n.pairs ≡ c.pairs = ap (λ (x : Turn). x.pairs) e in rw z l
-
-pub went_on : (list s s' s'' : List ℕ) (o : Departure) (c n r : Carried) → turn_of n s' ≡ (put_def s o (turn_of c s)).turn → s' ≡ (put_def s o (turn_of c s)).store
-    → carried_on s'' r ≡ pass_all list (carried_on s' n) → carried_on s'' r ≡ pass_all list (put_def s o (turn_of c s))
-went_on list s s' s'' o c n r et es e =
-    let q : Put = put_def s o (turn_of c s) in
-    e ∙ ap (λ (z : Turn). pass_all list (kept s' z)) et ∙ ap (λ (z : List ℕ). pass_all list (kept z q.turn)) es
+    passed w n ew en = rw (ew, en) (rw (← looked_at, ← ep, links_is, heard_is, busy_is, ← to_is))

@@ -7,14 +7,16 @@ use Rattle.wires.specs.Wires.{sixteen, queued, under_way, arrived, front, skippe
 use Rattle.wires.specs.Words.{is_list}
 use Rattle.mail.specs.Gather.{wire_of}
 use Rattle.tables.specs.Tables.{with_heard, with_busy}
-use Rattle.turn.specs.declared.Carried.{Carried}
-use Rattle.turn.specs.declared.Pair.{Pair}
-use Rattle.turn.specs.declared.Receiver.{Receiver}
-use Rattle.pass.specs.declared.Glance.{Glance}
-use Rattle.turn.specs.Turn.{Turn, turn_of, less_of, next_pair, Put}
-use Rattle.turn.specs.Parts.{receiver_of, left_after, at_after, moved_after}
+use Rattle.turn.specs.Turn.{Turn, Carried, Pair, turn_of, less_of, next_pair, Put}
+use Rattle.turn.specs.Parts.{Receiver, receiver_of, left_after, at_after, moved_after}
 
 -- ---- a look at a pair: the store after it, and what it shows
+
+-- whether the record stays as it is, whether a message was moved, and the links whose queue then holds one
+pub record Glance : Type 0 where
+  pub quiet : Bool
+  pub moved : Bool
+  pub heard : ℕ
 
 pub record Glanced : Type 0 where
   pub store : List ℕ

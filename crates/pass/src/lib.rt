@@ -1,125 +1,125 @@
 // Turns that touch no record, one after the other with no step among them. Document 01, "Lists and the drain".
 #![tactic(auto)]
 
-ghost use Rattle.std.specs.Prelude.{◌≡◌, ◌*◌, ◌<◌, ◌≤◌, length};
-ghost use Rattle.turn.specs.Turn.{turn_of, put_def};
-ghost use Rattle.pass.specs.Pass.{seen_as, glanced, glance_first, glance_to, glance_pair, carried_on, pass_all};
+ghost use Rattle.std.specs.Prelude.{◌≡◌, ◌<◌, length, true, false, MatchOption};
+ghost use Rattle.boxes.specs.Departure.{shown_departure};
+ghost use Rattle.turn.specs.Turn.{put_def};
+ghost use Rattle.turn.specs.Code.{flat, found, words_of, turn_with};
+ghost use Rattle.pass.specs.Pass.{glanced, glance_first, glance_to, glance_pair, glance_at, pass_one, pass_all};
+ghost use Rattle.pass.specs.Code.{seen_by, carried_with};
 
-use boxes::Departure;
+use boxes::{Departure, State};
+use tables::Table;
 use turn::{Carried, Pair, Receiver};
+use wires::{Message, Store, Wire};
 
 // ---- a look at a pair
 
-// What a look at the next pair shows: whether the record stays as it is, whether a message was moved, and the links whose queue then holds one.
-#[derive(Drop)]
-pub struct Glance {
-    pub quiet: bool,
+// What a look at the next pair shows where the record stays as it is: whether a message was moved, and the links whose queue then holds one.
+#[derive(Clone, Copy)]
+pub struct Seen {
     pub moved: bool,
     pub heard: u16,
 }
 
-fn seen(quiet: bool, moved: bool, heard: u16) -> Glance
-    ensures { result ≡ seen_as quiet moved heard }
+// The queue of the wire from a is empty, and the box is awake: a set that completes no round only waits. None, here and below, where the record would be
+// touched: nothing is done.
+#[tactic(auto, unfolding(crate::specs::Pass::glance_first))]
+fn look_first(store: &mut Store, r: Receiver, a: usize) -> Option<Seen>
+    requires { (a < 16) }
+    ensures { glanced store.new.words (seen_by (words_of r) result) ≡ glance_first (words_of r) a store.old.words }
 {
-    Glance {
-        quiet: quiet,
-        moved: moved,
-        heard: heard,
-    }
-}
-
-// The queue of the wire from a is empty, and the box is awake: a set that completes no round only waits.
-fn look_first(store: &mut [u32], r: Receiver, a: usize) -> Glance
-    requires { (length store.old ≡ 9264) × ((a < 16) × (r.own < 16)) }
-    ensures { glanced store.new result ≡ glance_first r a store.old }
-{
-    let i = a * 16 + r.own;
-    if wires::is_list(wires::first(store, i)) {
-        return seen(false, false, r.heard);
+    let wire = Wire::between(a, r.own);
+    if let Message::Neighbors { .. } = store.first(wire) {
+        return None;
     }
     let heard = r.heard | sets::only(a);
     if heard == r.links {
-        return seen(false, false, r.heard);
+        return None;
     }
-    wires::arrive(store, i);
-    seen(true, true, heard)
+    store.arrive(wire);
+    Some(Seen { moved: true, heard })
 }
 
 // The oldest message from a is moved where that touches no record; else nothing is done.
-fn look(store: &mut [u32], r: Receiver, a: usize) -> Glance
-    requires { (length store.old ≡ 9264) × ((a < 16) × (r.own < 16)) }
-    ensures { glanced store.new result ≡ glance_to r a store.old }
+#[tactic(auto, unfolding(crate::specs::Pass::glance_to))]
+fn look(store: &mut Store, r: Receiver, a: usize) -> Option<Seen>
+    requires { (a < 16) }
+    ensures { glanced store.new.words (seen_by (words_of r) result) ≡ glance_to (words_of r) a store.old.words }
 {
-    let i = a * 16 + r.own;
-    if wires::under_way(store, i) == 0 {
-        return seen(true, false, r.heard);
+    let wire = Wire::between(a, r.own);
+    let heard = r.heard;
+    if store.under_way(wire) == 0 {
+        return Some(Seen {
+            moved: false,
+            heard,
+        });
     }
-    if r.stopped {
-        wires::skip(store, i);
-        return seen(true, true, r.heard);
+    match r.state {
+        State::Stopped => {
+            store.skip(wire);
+        }
+        State::Asleep => return None,
+        State::Awake => {
+            if store.queued(wire) == 0 {
+                return look_first(store, r, a);
+            }
+            store.arrive(wire);
+        }
     }
-    if r.sleeps {
-        return seen(false, false, r.heard);
-    }
-    if wires::queued(store, i) == 0 {
-        return look_first(store, r, a);
-    }
-    wires::arrive(store, i);
-    seen(true, true, r.heard)
+    Some(Seen { moved: true, heard })
 }
 
-// A box that has started starts no more; where the search finds no wire, the run is over.
-fn look_at(store: &mut [u32], p: Pair, r: Receiver) -> Glance
-    requires { (length store.old ≡ 9264) × ((p.«from» < 16) × (r.own < 16)) }
-    ensures { glanced store.new result ≡ glance_pair p r store.old }
+// A box that has started starts no more.
+#[tactic(auto, unfolding(crate::specs::Pass::glance_pair))]
+fn look_at(store: &mut Store, p: Pair, r: Receiver) -> Option<Seen>
+    ensures { glanced store.new.words (seen_by (words_of r) result) ≡ glance_pair (found (Some p)) (words_of r) store.old.words }
 {
-    if p.some {
-        if p.from == r.own {
-            return seen(!r.sleeps, false, r.heard);
-        }
+    if p.from != r.own {
         return look(store, r, p.from);
     }
-    seen(false, false, r.heard)
+    if r.sleeps() {
+        return None;
+    }
+    Some(Seen {
+        moved: false,
+        heard: r.heard,
+    })
 }
 
 // ---- such turns
 
-// As many turns as touch no record, one after the other: most turns of a run, with no step and no table copied.
-fn pass(store: &mut [u32], list: &[u8], c: Carried) -> Carried
-    requires { (length store.old ≡ 9264) × (c.pairs * 2 ≤ length list.now) }
-    ensures { carried_on store.new result ≡ pass_all list.now (carried_on store.old c) }
+// One turn that touches no record. None, with nothing done, where the next one would, or where the search finds no wire: the run is over.
+fn pass_one(store: &mut Store, list: &[[u8; 2]], c: &mut Carried) -> Option<()>
+    ensures { let l = flat list.now in let q = carried_with store.old.words c.old (length list.now) in MatchOption result (((glance_at l q).glance.quiet ≡ false) × (carried_with store.new.words c.new (length list.now) ≡ q)) (λ _. ((glance_at l q).glance.quiet ≡ true) × (carried_with store.new.words c.new (length list.now) ≡ pass_one l q)) }
 {
-    let mut q = c;
-    while 0 < q.left {
-        let p = turn::next_pair(list, q.at, q.pairs, store);
-        let a = p.from;
-        let b = p.to;
-        let r = turn::receiver_of(
-            b,
-            tables::links_of(store, b),
-            tables::heard_of(store, b),
-            q.awake,
-            q.stopped,
-        );
-        let k = look_at(store, p, r);
-        if !k.quiet {
-            return q;
+    let p = turn::next_pair(list, c.at, store)?;
+    let r = c.receiver(store, p.to);
+    let k = look_at(store, p, r)?;
+    let busy = Table::Busy.of(store, p.from);
+    let to = sends::less_busy(store, k.moved, p.from, p.to, busy);
+    Table::Heard.set(store, p.to, k.heard);
+    Table::Busy.set(store, p.from, to);
+    c.after(list.len(), k.moved);
+    Some(())
+}
+
+// As many turns as touch no record, one after the other: most turns of a run, with no step and no table copied.
+fn pass(store: &mut Store, list: &[[u8; 2]], c: &mut Carried)
+    ensures { carried_with store.new.words c.new (length list.now) ≡ pass_all (flat list.now) (carried_with store.old.words c.old (length list.now)) }
+{
+    while 0 < c.left {
+        match pass_one(store, list, c) {
+            Some(()) => {}
+            None => return,
         }
-        let to = sends::less_busy(store, k.moved, a, b, tables::busy_of(store, a));
-        tables::set_heard(store, b, k.heard);
-        tables::set_busy(store, a, to);
-        q.moved = sends::moved_after(q.moved, k.moved);
-        q.left = sends::left_after(q.left, q.at, q.pairs, k.moved);
-        q.at = sends::at_after(q.at, q.pairs);
     }
-    q
 }
 
 // What goes out, and the turns after it that touch no record.
-pub fn go_on(store: &mut [u32], list: &[u8], o: Departure, c: Carried) -> Carried
-    requires { (length store.old ≡ 9264) × ((1 ≤ c.left) × (c.pairs * 2 ≤ length list.now)) }
-    ensures { carried_on store.new result ≡ pass_all list.now (put_def store.old o (turn_of c store.old)) }
+pub fn go_on(store: &mut Store, list: &[[u8; 2]], o: Departure, c: &mut Carried)
+    ensures { carried_with store.new.words c.new (length list.now) ≡ pass_all (flat list.now) (put_def store.old.words (shown_departure o) (turn_with c.old (length list.now) store.old.words)) }
 {
-    let n = sends::put(store, o, c);
-    pass(store, list, n)
+    sends::put(store, o, list.len(), c);
+    pass(store, list, c);
 }

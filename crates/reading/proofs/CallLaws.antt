@@ -1,22 +1,13 @@
 -- From what `parse` gives to the answers of the calls on it. Assumes nothing.
-use Prim.Native.Nat.{ℕ, ◌-◌, ◌*◌, ◌≤◌}
-use native.Mathlib.Omega.{arith}
-use native.Mathlib.Nat.{mul-le-mul}
+use Prim.Native.Nat.{ℕ, ◌-◌, ◌*◌}
 use mathlib.Core.Path.{◌≡◌}
 use mathlib.Core.List.{List}
-use mir.Syntax.{w32}
-use mir.Val.{Fits}
 use lib.ListN.{length}
 use borrow.Author.Tests.{eq-eqb, ne_eqb}
 use Rattle.rules.specs.Outcome.{refuse, and_then}
 use Rattle.rules.specs.Calls.{Read, Allowed, reading, read_answer, read_call, allowance_answer, allowance_call}
-use Rattle.sheet.specs.declared.Parsed.{Parsed}
-use Rattle.sheet.specs.Answers.{ParsedFrom}
+use Rattle.sheet.specs.Answers.{Parsed, ParsedFrom}
 use Rattle.sheet.proofs.SheetLaws.{sheet_accepted, sheet_refused}
-
--- a product of two small numbers fits 32 bits: at most 240 wires, and fewer than 64 identities on each
-pub fits_small : {a b : ℕ} → a ≤ 240 → b ≤ 64 → Fits w32 (a * b)
-fits_small h k = let l = mul-le-mul h k in omega arith
 
 module _ {s : List ℕ} {r : Parsed} (h : ParsedFrom s r) where
   pub read_refused : (table : List ℕ) → (r.number ≡ 0 → ⊥) → ◌≡◌ {A = Read} (record { number = r.number; boxes = 0; links = 0; table = table }) (read_call s table)

@@ -1,43 +1,42 @@
 -- What the calls of a turn's last part come to in their definitions: each law takes what the callees promise, and gives what the function promises.
 -- Assumes nothing.
-use Rattle.std.proofs.Common.{◌≡◌, ℕ, ◌+◌, ◌%◌, ◌^◌, ◌<◌, Bool, true, false, cond, ◌&&◌, ◌||◌, eqb, List, length, set, sym, refl, ap, ◌∙◌, subst, arith, ne_eqb}
+use Rattle.std.proofs.Common.{◌≡◌, ℕ, ◌+◌, ◌%◌, ◌<◌, Bool, true, false, cond, ◌&&◌, ◌||◌, List, length, set, sym, refl, ap, ◌∙◌, subst, arith}
 use lib.Bits.{bit_or}
-use Rattle.rules.specs.Sets.{without, word}
+use Rattle.rules.specs.Sets.{word}
 use Rattle.sets.specs.Mem.{or_neither}
 use Rattle.sets.specs.Loops.{for_each_keeps, pick}
 use Rattle.sets.specs.Tables.{set_if_lem}
-use Rattle.wires.specs.Wires.{sixteen, under_way}
 use Rattle.tables.specs.Tables.{links_of, heard_of, busy_of, with_heard, with_busy}
 use Rattle.tables.proofs.Laws.{Same, same_trans, same_links, same_heard, same_busy, same_refl, both_links, both_heard, both_busy, busy_busy, links_busy, heard_busy, put_length}
-use Rattle.boxes.specs.declared.Departure.{Departure}
-use Rattle.mail.specs.declared.Letter.{Letter}
+use Rattle.std.proofs.Common.{Option, Some, None}
+use Rattle.std.specs.Bool.{then_some}
+use Rattle.std.specs.Option.{is_some}
+use Rattle.boxes.specs.declared.Sent.{Sent}
+use Rattle.boxes.specs.Departure.{Departure, sets_sent, origins_sent}
+use Rattle.mail.specs.declared.Round.{Round}
+use Rattle.mail.proofs.Laws.{letter_said}
 use Rattle.mail.specs.declared.Counts.{Counts}
 use Rattle.mail.specs.Post.{Posted, post_if}
-use Rattle.mail.specs.Letter.{posted, post_link}
+use Rattle.mail.specs.Letter.{Letter, with_own, posted, post_link}
 use Rattle.mail.specs.Gather.{wire_of, clear_to}
 use Rattle.turn.specs.declared.Carried.{Carried}
-use Rattle.turn.specs.Turn.{Turn, turn_of, less_of, letter, post_to, less_busy, more_busy, ends, kept_tables, next_turn, put_def}
-use Rattle.turn.specs.Parts.{Kept, left_after, at_after, moved_after}
+use Rattle.turn.specs.Code.{turn_with, gone_on, marked}
+use Rattle.turn.specs.Turn.{Turn, less_of, letter, post_to, less_busy, more_busy, ends, kept_tables, next_turn, put_def}
+use Rattle.turn.specs.Parts.{Kept}
 use Rattle.turn.proofs.Tables.{clear_same, post_same}
 
 -- ---- what goes out
 
-pub less_none : (s : List ℕ) (moved : Bool) (a b to n x r : ℕ) → moved ≡ true → n ≡ under_way sixteen s (wire_of a b) → n ≡ 0 → x ≡ 2 ^ b → r ≡ without to x
-    → r ≡ less_of s moved a b to
-less_none s moved a b to n x r y e z ex er =
-    let w : under_way sixteen s (wire_of a b) ≡ 0 = sym e ∙ z in
-    rw (y, w, ← ex) er
+-- of what a round sends, what goes to box j
+abbrev pub round_for : ℕ → Option Sent → Option Round
+round_for j None = None
+round_for j (Some s) = Some (record { origins = word s.origins j; «set» = word s.sets j })
 
-pub less_some : (s : List ℕ) (moved : Bool) (a b to n : ℕ) → moved ≡ true → n ≡ under_way sixteen s (wire_of a b) → (n ≡ 0 → ⊥) → to ≡ less_of s moved a b to
-less_some s moved a b to n y e z =
-    let w : eqb (under_way sixteen s (wire_of a b)) 0 ≡ false = ne_eqb _ _ (λ h. z (e ∙ h)) in
-    rw (y, w)
-
--- the letter that the code writes for box j
-pub letter_is : (o : Departure) (j own : ℕ) (p q : Posted) → own ≡ 2 ^ (o.own % 16)
-    → q ≡ post_link (wire_of (o.own % 16) j) (record { wakes = o.wakes; own = own; round = o.round; origins = word o.origins j; «set» = word o.sets j }) o.neighbors p
-    → q ≡ post_link (wire_of (o.own % 16) j) (letter o j) o.neighbors p
-letter_is o j own p q e g = rw (← e) g
+pub letter_for : (round : Option Sent) (i own j : ℕ) (known : List ℕ) (p : Posted) (wakes : Bool)
+    → post_link i (with_own (then_some wakes own) (round_for j round)) known p
+    ≡ post_link i (record { wakes = wakes; own = own; round = is_some round; origins = word (origins_sent round) j; «set» = word (sets_sent round) j }) known p
+letter_for None i own j known p wakes = letter_said i own _ _ known p wakes false
+letter_for (Some s) i own j known p wakes = letter_said i own _ _ known p wakes true
 
 -- a box that neither wakes nor does a round has nothing to say
 nothing_said : (i : ℕ) (l : Letter) (known : List ℕ) (p : Posted) → l.wakes ≡ false → l.round ≡ false → post_link i l known p ≡ p
@@ -95,15 +94,15 @@ module _ (o : Departure) (links to : ℕ) (s : List ℕ) (size : length s ≡ 92
         busy = rw e (busy_busy v b y (put_length (with_heard s b h) (32 + a) to ∙ put_length s (16 + b) h ∙ size) low_b l ∙ ap (λ (k : ℕ). set (busy_of v) b k) z ∙ ap (λ (k : List ℕ). set k b (bit_or (word k b) links)) v_busy);
       }
 
-module _ (s s₁ s₂ s₃ : List ℕ) (o : Departure) (c : Carried) (p : Counts) (links at_a to : ℕ) (ended : Bool)
-    (el : links ≡ word (links_of s) (o.own % 16)) (ea : at_a ≡ word (busy_of s) (o.«from» % 16))
-    (et : to ≡ less_of s o.moved (o.«from» % 16) (o.own % 16) at_a)
+module _ (s s₁ s₂ s₃ : List ℕ) (o : Departure) (c : Carried) (pairs : ℕ) (p : Counts) (links to : ℕ) (ended : Bool)
+    (el : links ≡ word (links_of s) (o.own % 16))
+    (et : to ≡ less_of s o.moved (o.«from» % 16) (o.own % 16) (word (busy_of s) (o.«from» % 16)))
     (en : ended ≡ o.stops && (o.wakes || o.round))
     (e₁ : s₁ ≡ cond ended (clear_to (o.own % 16) links 16 s) s)
     (e₂ : posted s₂ p ≡ post_to o links 16 (record { store = s₁; sent = c.sent; full = c.full }))
     (e₃ : Kept o links to s₂ s₃) where
   abbrev t : Turn
-  t = turn_of c s
+  t = turn_with c pairs s
 
   -- what goes out leaves the tables
   same_out : Same s s₂
@@ -115,16 +114,13 @@ module _ (s s₁ s₂ s₃ : List ℕ) (o : Departure) (c : Carried) (p : Counts
 
   pub put_store : s₃ ≡ (put_def s o t).store
   unfolding put_def
-  put_store = e₃.words ∙ rw (et, ea, el, ← sent_out)
+  put_store = e₃.words ∙ rw (et, el, ← sent_out)
 
-  pub put_turn : (left at moved awake stopped : ℕ) → left ≡ left_after c.left c.at c.pairs o.moved → at ≡ at_after c.at c.pairs
-      → moved ≡ moved_after c.moved o.moved
-      → awake ≡ cond ended (without c.awake (2 ^ (o.own % 16))) (cond o.wakes (bit_or c.awake (2 ^ (o.own % 16))) c.awake)
-      → stopped ≡ cond ended (bit_or c.stopped (2 ^ (o.own % 16))) c.stopped
-      → turn_of (record { left = left; at = at; pairs = c.pairs; sent = p.sent; moved = moved; awake = awake; stopped = stopped; full = p.full }) s₃ ≡ (put_def s o t).turn
+  pub put_turn : (m n : Carried) → m ≡ gone_on c pairs o.moved → n ≡ marked m (o.own % 16) ended o.wakes
+      → turn_with (record n { sent = p.sent; full = p.full }) pairs s₃ ≡ (put_def s o t).turn
   unfolding put_def next_turn less_busy ends
-  put_turn left at moved awake stopped xl xa xm xw xs =
+  put_turn m n em eo =
       let ls : links_of s₃ ≡ links_of s = e₃.same ∙ same_links s s₂ same_out in
       let hs : heard_of s₃ ≡ set (heard_of s) (o.own % 16) (cond ended 0 o.heard) = e₃.heard ∙ rw (same_heard s s₂ same_out, ← en) in
       let bs : busy_of s₃ ≡ more_busy o links (set (busy_of s) (o.«from» % 16) to) = e₃.busy ∙ rw (same_busy s s₂ same_out) in
-      rw (ls, hs, bs, xl, xa, xm, xw, xs, ← sent_out, ← en, el, et, ea, set_if_lem)
+      rw (ls, hs, bs, eo, em, ← sent_out, ← en, el, et, set_if_lem)

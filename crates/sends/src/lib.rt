@@ -1,81 +1,58 @@
 // The last part of a turn, after the box's own step: what goes out, and what is carried on. Document 01, "Lists and the drain".
 #![tactic(auto)]
 
-ghost use Rattle.std.specs.Prelude.{◌≡◌, ◌^◌, ◌<◌, ◌≤◌, ◌&&◌, ◌||◌, length, if◌then◌else◌, bit_or};
-ghost use Rattle.rules.specs.Sets.{without};
-ghost use Rattle.mail.specs.Gather.{clear_to};
-ghost use Rattle.mail.specs.Letter.{posted};
-ghost use Rattle.turn.specs.Turn.{turn_of, less_of, post_to, ends, put_def};
-ghost use Rattle.turn.specs.Parts.{Kept, left_after, at_after, moved_after};
+ghost use Rattle.std.specs.Prelude.{◌≡◌, ◌%◌, ◌<◌, length, if◌then◌else◌};
+ghost use Rattle.rules.specs.Sets.{word};
+ghost use Rattle.tables.specs.Tables.{busy_of};
+ghost use Rattle.boxes.specs.Departure.{shown_departure};
+ghost use Rattle.mail.specs.Gather.{wire_of, clear_to};
+ghost use Rattle.mail.specs.Letter.{posted, post_link};
+ghost use Rattle.turn.specs.Turn.{less_of, letter, post_to, ends, put_def};
+ghost use Rattle.turn.specs.Parts.{Kept};
+ghost use Rattle.turn.specs.Code.{turn_with};
 
 use boxes::Departure;
-use mail::{Counts, Letter};
+use mail::{Counts, Letter, Round};
+use sets::Members;
+use tables::Table;
 use turn::Carried;
+use wires::{Store, Wire};
 
 // ---- what goes out
 
-// To every link, ascending.
-fn post_each(store: &mut [u32], o: Departure, links: u16, c: Counts) -> Counts
-    requires { length store.old ≡ 9264 }
-    ensures { posted store.new result ≡ post_to o links 16 (posted store.old c) }
+// What goes to box j.
+fn post_one(store: &mut Store, o: Departure, j: usize, c: &mut Counts)
+    requires { j < 16 }
+    ensures { posted store.new.words c.new ≡ post_link (wire_of (o.own % 16) j) (letter (shown_departure o) j) o.neighbors (posted store.old.words c.old) }
 {
     let b = o.own % 16;
-    let own = sets::only(b);
-    let known = o.neighbors;
-    let mut q = c;
-    let mut rest = links;
-    while rest != 0 {
-        let j = sets::lowest(rest);
-        rest = sets::minus(rest, sets::only(j));
-        let l = Letter {
-            wakes: o.wakes,
-            own: own,
-            round: o.round,
-            origins: o.origins[j],
-            set: o.sets[j],
-        };
-        q = mail::post_link(store, b * 16 + j, l, &known, q);
-    }
-    q
+    let letter = Letter {
+        own: o.wakes.then_some(sets::only(b)),
+        round: o.round.map(|sent| Round {
+            origins: sent.origins[j],
+            set: sent.sets[j],
+        }),
+    };
+    c.post_link(store, Wire::between(b, j), letter, &o.neighbors);
 }
 
-// A box that neither wakes nor does a round sends nothing: most turns end here, with no table touched.
-fn post_all(store: &mut [u32], o: Departure, links: u16, c: Counts) -> Counts
-    requires { length store.old ≡ 9264 }
-    ensures { posted store.new result ≡ post_to o links 16 (posted store.old c) }
+// To every link, ascending. A box that neither wakes nor does a round sends nothing: most turns end here, with no table touched.
+fn post_all(store: &mut Store, o: Departure, links: u16, c: &mut Counts)
+    ensures { posted store.new.words c.new ≡ post_to (shown_departure o) links 16 (posted store.old.words c.old) }
 {
-    if sends(o.wakes, o.round) {
-        return post_each(store, o, links, c);
+    if o.sends() {
+        for j in Members::of(links) {
+            post_one(store, o, j, c);
+        }
     }
-    c
 }
 
 // ---- what is carried on
 
-// Whether anything goes out.
-fn sends(wakes: bool, round: bool) -> bool
-    ensures { result ≡ wakes || round }
-{
-    if wakes {
-        return true;
-    }
-    round
-}
-
-// The box has stopped in this turn.
-fn stopping(stops: bool, wakes: bool, round: bool) -> bool
-    ensures { result ≡ stops && (wakes || round) }
-{
-    if stops {
-        return sends(wakes, round);
-    }
-    false
-}
-
 // "A stopping box empties its queues."
-fn clear_ended(store: &mut [u32], ended: bool, b: usize, links: u16)
-    requires { (length store.old ≡ 9264) × (b < 16) }
-    ensures { store.new ≡ (if ended then clear_to b links 16 store.old else store.old) }
+fn clear_ended(store: &mut Store, ended: bool, b: usize, links: u16)
+    requires { b < 16 }
+    ensures { store.new.words ≡ (if ended then clear_to b links 16 store.old.words else store.old.words) }
 {
     if ended {
         mail::clear_all(store, b, links);
@@ -83,110 +60,51 @@ fn clear_ended(store: &mut [u32], ended: bool, b: usize, links: u16)
 }
 
 // The receivers that the sender still has messages under way to: not b, once its last message was moved.
-pub fn less_busy(store: &[u32], moved: bool, a: usize, b: usize, to: u16) -> u16
-    requires { (length store.now ≡ 9264) × ((a < 16) × (b < 16)) }
-    ensures { result ≡ less_of store.now moved a b to }
+pub fn less_busy(store: &Store, moved: bool, a: usize, b: usize, to: u16) -> u16
+    requires { (a < 16) × (b < 16) }
+    ensures { result ≡ less_of store.now.words moved a b to }
 {
-    if moved {
-        if wires::under_way(store, a * 16 + b) == 0 {
-            return sets::minus(to, sets::only(b));
-        }
+    if moved && store.under_way(Wire::between(a, b)) == 0 {
+        return sets::minus(to, sets::only(b));
     }
     to
 }
 
-pub fn left_after(left: usize, at: usize, pairs: usize, moved: bool) -> usize
-    requires { 1 ≤ left }
-    ensures { result ≡ left_after left at pairs moved }
-{
-    if at < pairs {
-        return left - 1;
-    }
-    if moved { left - 1 } else { 0 }
-}
-
-pub fn at_after(at: usize, pairs: usize) -> usize
-    ensures { result ≡ at_after at pairs }
-{
-    if at < pairs { at + 1 } else { at }
-}
-
-pub fn moved_after(n: u32, moved: bool) -> u32
-    ensures { result ≡ moved_after n moved }
-{
-    if moved {
-        return std::num::wrapping_add_u32(n, 1);
-    }
-    n
-}
-
-fn awake_after(awake: u16, b: usize, ended: bool, wakes: bool) -> u16
-    requires { b < 16 }
-    ensures { result ≡ (if ended then without awake (2 ^ b) else (if wakes then bit_or awake (2 ^ b) else awake)) }
-{
-    if ended {
-        return sets::minus(awake, sets::only(b));
-    }
-    if wakes {
-        return awake | sets::only(b);
-    }
-    awake
-}
-
-fn stopped_after(stopped: u16, b: usize, ended: bool) -> u16
-    requires { b < 16 }
-    ensures { result ≡ (if ended then bit_or stopped (2 ^ b) else stopped) }
-{
-    if ended {
-        return stopped | sets::only(b);
-    }
-    stopped
-}
-
-fn heard_after(ended: bool, heard: u16) -> u16
-    ensures { result ≡ (if ended then 0 else heard) }
-{
-    if ended { 0 } else { heard }
-}
-
-// What is carried in the tables: the receiver has heard what it has, and what the sender and a box that sends have under way.
-fn keep_tables(store: &mut [u32], o: Departure, ended: bool, links: u16, to: u16)
-    requires { (length store.old ≡ 9264) × (ended ≡ ends o) }
-    ensures { Kept o links to store.old store.new }
+// What is carried in the tables: what the receiver has heard, and what the sender and a box that sends have under way.
+fn keep_tables(store: &mut Store, o: Departure, heard: u16, links: u16, to: u16)
+    requires { heard ≡ (if ends (shown_departure o) then 0 else o.heard) }
+    ensures { Kept (shown_departure o) links to store.old.words store.new.words }
 {
     let b = o.own % 16;
-    tables::set_heard(store, b, heard_after(ended, o.heard));
-    tables::set_busy(store, o.from % 16, to);
-    if sends(o.wakes, o.round) {
-        tables::set_busy(store, b, tables::busy_of(store, b) | links);
+    Table::Heard.set(store, b, heard);
+    Table::Busy.set(store, o.from % 16, to);
+    if o.sends() {
+        let busy = Table::Busy.of(store, b) | links;
+        Table::Busy.set(store, b, busy);
     }
 }
 
-// What goes out, and what is carried to the next turn.
-pub fn put(store: &mut [u32], o: Departure, c: Carried) -> Carried
-    requires { (length store.old ≡ 9264) × (1 ≤ c.left) }
-    ensures { (turn_of result store.new ≡ (put_def store.old o (turn_of c store.old)).turn) × (store.new ≡ (put_def store.old o (turn_of c store.old)).store) }
+// What goes out, and what is carried to the next turn, where the list has so many pairs.
+#[tactic(auto, unfolding(turn::specs::Turn::ends))]
+pub fn put(store: &mut Store, o: Departure, pairs: usize, c: &mut Carried)
+    ensures { (turn_with c.new pairs store.new.words ≡ (put_def store.old.words (shown_departure o) (turn_with c.old pairs store.old.words)).turn) × (store.new.words ≡ (put_def store.old.words (shown_departure o) (turn_with c.old pairs store.old.words)).store) }
 {
+    let b = o.own % 16;
+    let ended = o.stops && o.sends();
+    let links = Table::Links.of(store, b);
     let a = o.from % 16;
-    let b = o.own % 16;
-    let ended = stopping(o.stops, o.wakes, o.round);
-    let links = tables::links_of(store, b);
-    let to = less_busy(store, o.moved, a, b, tables::busy_of(store, a));
+    let to = less_busy(store, o.moved, a, b, Table::Busy.of(store, a));
     clear_ended(store, ended, b, links);
-    let first = Counts {
+    // copied out and back: `posted` speaks of these two beside the store
+    let mut counts = Counts {
         sent: c.sent,
         full: c.full,
     };
-    let p = post_all(store, o, links, first);
-    keep_tables(store, o, ended, links, to);
-    Carried {
-        left: left_after(c.left, c.at, c.pairs, o.moved),
-        at: at_after(c.at, c.pairs),
-        pairs: c.pairs,
-        sent: p.sent,
-        moved: moved_after(c.moved, o.moved),
-        awake: awake_after(c.awake, b, ended, o.wakes),
-        stopped: stopped_after(c.stopped, b, ended),
-        full: p.full,
-    }
+    post_all(store, o, links, &mut counts);
+    let heard = if ended { 0 } else { o.heard };
+    keep_tables(store, o, heard, links, to);
+    c.after(pairs, o.moved);
+    c.mark(b, ended, o.wakes);
+    c.sent = counts.sent;
+    c.full = counts.full;
 }

@@ -1,20 +1,18 @@
 -- The pair reader's turns: what `pairs` of the rules gives where two more bytes stand at place i of the part, and where fewer do.
 -- Assumes nothing.
-use Prim.Native.Nat.{ℕ, suc, ◌+◌, ◌/◌, ◌<◌, ◌≤◌}
+use Prim.Native.Nat.{ℕ, ◌+◌, ◌*◌, ◌<◌, ◌≤◌}
 use native.Mathlib.Omega.{arith}
 use native.Mathlib.Numerals.{add-one}
 use mathlib.Core.Path.{◌≡◌, refl, sym, ap, ◌∙◌}
 use mathlib.Core.Bool.{Bool, true, false, not, ◌||◌, cond}
 use mathlib.Core.List.{List, [], ◌∷◌}
 use lib.Dec.{leb}
-use lib.ListN.{length, get_or, drop, length-drop}
-use lib.Seq.{drop-cons}
-use borrow.Author.Tests.{lt-leb, leb-false}
+use lib.ListN.{length, drop, length-drop}
+use borrow.Author.Tests.{leb-false}
 use Rattle.rules.specs.Outcome.{Outcome, refused, accepted, refuse}
 use Rattle.rules.specs.Sheet.{above, link, pairs}
 use Rattle.calls.specs.Refused.{Numbered}
-use Rattle.sheet.specs.declared.Pairs.{Pairs}
-use Rattle.sheet.specs.Answers.{pair_number, pairs_answer}
+use Rattle.sheet.specs.Answers.{Pairs, pair_number, pairs_answer}
 use Rattle.sheet.proofs.RefusalLaws.{passes, stays}
 
 -- ---- three tests in a row
@@ -40,33 +38,21 @@ below n c d y z e = go (leb n c) (leb n d) refl refl e
 -- ---- one pair
 
 module _ (n a b c d : ℕ) where
-  -- a pair of boxes below n, the first lower: only 8 is left
-  pub rising : c < n → d < n → c < d → pair_number n a b c d ≡ cond (not (above a b c d)) 8 0
-  unfolding pair_number
-  rising h k l = rw (lt-leb n c h, lt-leb n d k, lt-leb d c l)
-
   -- a pair that is not refused names boxes below n
   pub in_range : pair_number n a b c d ≡ 0 → (c < n) × (d < n)
   unfolding pair_number
   in_range e = below n c d (leb d c) (not (above a b c d)) e
 
--- ---- a turn of the reader: the pair (c, d) at place i, and the number that it is refused with
+-- ---- a turn of the reader: the pair (c, d) at place k, and the number r that it is refused with
 
-module _ (n a b : ℕ) (part t : List ℕ) (i c d k : ℕ) (h : i + 1 < length part) (ec : c ≡ get_or part i 0) (ed : d ≡ get_or part (i + 1) 0) (ek : k ≡ pair_number n a b c d) where
-  two : drop i part ≡ c ∷ (d ∷ drop (i + 2) part)
-  two =
-      let e : i + 2 ≡ suc (suc i) = omega arith in
-      rw (ec, ed, e, add-one, drop-cons part i 0 (omega arith)) (rw (drop-cons part (suc i) 0 (omega arith)))
-
-  pub goes_on : k ≡ 0 → pairs n (i / 2) a b (drop i part) t ≡ pairs n ((i + 2) / 2) c d (drop (i + 2) part) (link c d t)
+module _ (n a b c d k r : ℕ) (left rest t : List ℕ) (e : left ≡ c ∷ d ∷ rest) (er : r ≡ pair_number n a b c d) where
+  pub goes_on : r ≡ 0 → pairs n k a b left t ≡ pairs n (k + 1) c d rest (link c d t)
   unfolding pair_number pairs
-  goes_on z =
-      let s : (i + 2) / 2 ≡ suc (i / 2) = omega arith in
-      rw (two, s) (none (i / 2) _ _ _ _ (sym ek ∙ z))
+  goes_on z = rw (e, add-one) (none k _ _ _ _ (sym er ∙ z))
 
-  pub stops : (k ≡ 0 → ⊥) → pairs n (i / 2) a b (drop i part) t ≡ refused k (i / 2)
+  pub stops : (r ≡ 0 → ⊥) → pairs n k a b left t ≡ refused r k
   unfolding pair_number pairs
-  stops f = rw (two, ek) (some (i / 2) _ _ _ _ (λ z. f (ek ∙ z)))
+  stops f = rw (e, er) (some k _ _ _ _ (λ z. f (er ∙ z)))
 
 -- fewer than two bytes: no pair is left
 short : (n k a b : ℕ) (l t : List ℕ) → length l ≤ 1 → pairs n k a b l t ≡ accepted t
@@ -75,8 +61,8 @@ short n k a b [] t h = refl
 short n k a b (c ∷ []) t h = refl
 short n k a b (c ∷ d ∷ l) t h = absurd (omega arith)
 
-pub ends : (n k a b i : ℕ) (part t : List ℕ) → length part ≤ i + 1 → pairs n k a b (drop i part) t ≡ accepted t
-ends n k a b i part t h = short n k a b (drop i part) t (simp length-drop (omega arith))
+pub ends : (n k a b : ℕ) (part t : List ℕ) → length part ≤ 2 * k + 1 → pairs n k a b (drop (2 * k) part) t ≡ accepted t
+ends n k a b part t h = short n k a b (drop (2 * k) part) t (omega (arith, length-drop (2 * k) part))
 
 -- ---- back from the reader's answer to the rules' outcome: no refusal has the number 0
 

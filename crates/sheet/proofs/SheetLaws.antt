@@ -1,19 +1,18 @@
 -- Reading a sheet, test by test: what `read_sheet` of the rules answers where the tests before hold, and what follows for `parse`.
 -- Assumes nothing.
-use Prim.Native.Nat.{ℕ, zero, suc, ◌+◌, ◌-◌, ◌*◌, ◌<◌, ◌≤◌}
+use Prim.Native.Nat.{ℕ, ◌+◌, ◌-◌, ◌*◌, ◌<◌, ◌≤◌}
 use native.Mathlib.Omega.{arith}
 use mathlib.Core.Path.{◌≡◌, refl, sym, ap, ◌∙◌}
 use mathlib.Core.Bool.{Bool, not, ◌||◌, cond}
 use mathlib.Core.List.{List}
 use lib.Dec.{eqb, ltb}
 use lib.ListN.{length, get_or, take, drop}
+use Rattle.std.proofs.lemmas.List.{get_or-drop, take_rest, drop-take}
 use borrow.Author.Tests.{lt-ltb, le-ltb}
 use Rattle.rules.specs.Outcome.{Outcome, refused, accepted, refuse, and_then}
 use Rattle.rules.specs.Sheet.{Sheet, pairs, pair_bytes, read_sheet}
 use Rattle.calls.specs.Refused.{Numbered, pairs_numbered, sheet_numbered}
-use Rattle.sheet.specs.declared.Pairs.{Pairs}
-use Rattle.sheet.specs.declared.Parsed.{Parsed}
-use Rattle.sheet.specs.Answers.{trailer_number, Trailed, no_links, no_sheet, pairs_answer, parsed_answer, ParsedFrom}
+use Rattle.sheet.specs.Answers.{Pairs, Parsed, trailer_number, Trailed, no_links, no_sheet, pairs_answer, parsed_answer, ParsedFrom}
 use Rattle.sheet.proofs.RefusalLaws.{passes, stays}
 use Rattle.sheet.proofs.PairLaws.{was_accepted, was_refused}
 
@@ -38,6 +37,22 @@ pub record Trailer (s : List ℕ) (b p n v : ℕ) : Type 0 where
   pub links : p ≡ get_or s (length s - 3) 0
   pub boxes : n ≡ get_or s (length s - 2) 0
   pub version : v ≡ get_or s (length s - 1) 0
+
+-- as the last four bytes, cut off
+pub trailer_of : (s last : List ℕ) (b p n v : ℕ) → 4 ≤ length s → last ≡ drop (length s - 4) s → b ≡ get_or last 0 0 → p ≡ get_or last 1 0 → n ≡ get_or last 2 0
+    → v ≡ get_or last 3 0 → Trailer s b p n v
+trailer_of s last b p n v h e eb ep en ev =
+    let i : length s - 4 + 0 ≡ length s - 4 = omega arith in
+    let j : length s - 4 + 1 ≡ length s - 3 = omega arith in
+    let k : length s - 4 + 2 ≡ length s - 2 = omega arith in
+    let l : length s - 4 + 3 ≡ length s - 1 = omega arith in
+    record {
+      long = h;
+      back = rw (eb, e, get_or-drop (length s - 4) s 0 0, i) refl;
+      links = rw (ep, e, get_or-drop (length s - 4) s 1 0, j) refl;
+      boxes = rw (en, e, get_or-drop (length s - 4) s 2 0, k) refl;
+      version = rw (ev, e, get_or-drop (length s - 4) s 3 0, l) refl;
+    }
 
 -- ---- the tests 2 to 5 in a row
 
@@ -73,32 +88,31 @@ module _ (e b p n v : ℕ) (o : Outcome Sheet) where
 abbrev sheet_of : ℕ → ℕ → Outcome (List ℕ) → Outcome Sheet
 sheet_of n p o = and_then o (λ t. accepted (record { boxes = n; links = p; table = t }))
 
-pub above_zero : (k : ℕ) → (k ≡ 0 → ⊥) → 1 ≤ k
-above_zero zero f = absurd (f refl)
-above_zero (suc k) f = omega arith
-
 module _ {s : List ℕ} {b p n v k : ℕ} (t : Trailer s b p n v) (ek : k ≡ trailer_number (length s) b p n v) where
   by_tests : read_sheet 16 s ≡ tests (length s) b p n v (sheet_of n p (pairs n 0 0 0 (pair_bytes b s) no_links))
   unfolding read_sheet refuse
   by_tests = rw (le-ltb (length s) 4 t.long, ← t.back, ← t.links, ← t.boxes, ← t.version)
 
   pub refuses_trailer : (r : Parsed) → r ≡ no_sheet k → (k ≡ 0 → ⊥) → ParsedFrom s r
-  refuses_trailer r e f = refusing s r k 0 e (above_zero k f) (by_tests ∙ rw ek (tests_some (length s) b p n v _ (λ z. f (ek ∙ z))))
+  refuses_trailer r e f = refusing s r k 0 e (omega (arith, f)) (by_tests ∙ rw ek (tests_some (length s) b p n v _ (λ z. f (ek ∙ z))))
 
-  -- the part that the code cuts out is the rules', and q is what the pair reader answers on it
-  module _ (z : k ≡ 0) (h : Trailed (length s) b p n) (part : List ℕ) (ep : part ≡ take (length s - 4 - (length s - b)) (drop (length s - b) s))
-      (q : Pairs) (eq : q ≡ pairs_answer (pairs n 0 0 0 part no_links)) where
-    by_pairs : read_sheet 16 s ≡ sheet_of n p (pairs n 0 0 0 part no_links)
+  -- the part that the code cuts out of what stands before the trailer is the rules', and q is what the pair reader answers on it
+  module _ (z : k ≡ 0) (h : Trailed (length s) b p n) (before part : List ℕ) (eb : before ≡ take (length s - 4) s)
+      (ep : part ≡ take (length before - (length s - b)) (drop (length s - b) before)) (q : Pairs) (eq : q ≡ pairs_answer (pairs n 0 0 0 part no_links)) where
+    part_is : part ≡ pair_bytes b s
     unfolding pair_bytes
-    by_pairs =
-        let c : length s - 4 - (length s - b) ≡ b - 4 = omega arith in
-        rw (by_tests, tests_none (length s) b p n v _ (sym ek ∙ z), ep, c)
+    part_is =
+        let c : length s - 4 ≡ (length s - b) + (b - 4) = omega (arith, h.back, h.within) in
+        ep ∙ take_rest before (length s - b) ∙ rw (eb, c) (drop-take (length s - b) (b - 4) s)
+
+    by_pairs : read_sheet 16 s ≡ sheet_of n p (pairs n 0 0 0 part no_links)
+    by_pairs = rw (by_tests, tests_none (length s) b p n v _ (sym ek ∙ z), part_is)
 
     pub refuses_pair : (r : Parsed) → r ≡ no_sheet q.number → (q.number ≡ 0 → ⊥) → ParsedFrom s r
     unfolding and_then
     refuses_pair r e f =
         let (i, w) = was_refused q _ eq f in
-        refusing s r q.number i e (above_zero q.number f) (by_pairs ∙ ap (sheet_of n p) w)
+        refusing s r q.number i e (omega (arith, f)) (by_pairs ∙ ap (sheet_of n p) w)
 
     pub accepts : q.number ≡ 0 → ParsedFrom s (record { number = 0; boxes = n; links = p; table = q.table })
     unfolding and_then parsed_answer

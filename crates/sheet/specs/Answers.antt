@@ -1,9 +1,10 @@
 -- The answers of this crate's functions as the outcomes of the rules. Definitions alone.
-use Rattle.std.specs.Prelude.{ℕ, ◌+◌, ◌*◌, ◌≤◌, ◌≡◌, not, ◌||◌, cond, List, eqb, ltb, leb, replicate}
+use Rattle.std.specs.Prelude.{ℕ, ◌+◌, ◌*◌, ◌≤◌, ◌≡◌, not, ◌||◌, cond, List, Result, Ok, Err, eqb, ltb, leb, replicate}
 use Rattle.rules.specs.Outcome.{Outcome, refused, accepted}
 use Rattle.rules.specs.Sheet.{Sheet, above, read_sheet}
-use Rattle.sheet.specs.declared.Pairs.{Pairs}
-use Rattle.sheet.specs.declared.Parsed.{Parsed}
+use Rattle.refusals.specs.declared.Refusal.{Refusal}
+use Rattle.refusals.specs.Numbers.{number}
+use Rattle.sheet.specs.declared.Sheet.{Sheet as Found}
 
 -- the number that the pair (c, d) is refused with after (a, b), 0 where it is not
 unfoldable pub pair_number : ℕ → ℕ → ℕ → ℕ → ℕ → ℕ
@@ -25,9 +26,26 @@ pub record Trailed (e b p n : ℕ) : Type 0 where
 abbrev pub no_links : List ℕ
 no_links = replicate 16 0
 
+-- what the pairs give: a refusal's number with no links, or 0 and the table
+pub record Pairs : Type 0 where
+  pub number : ℕ
+  pub table : List ℕ
+
 unfoldable pub pairs_answer : Outcome (List ℕ) → Pairs
 pairs_answer (refused n p) = record { number = n; table = no_links }
 pairs_answer (accepted t) = record { number = 0; table = t }
+
+-- the same of what the code's reader gives
+abbrev pub pairs_of : Result (List ℕ) Refusal → Pairs
+pairs_of (Ok t) = record { number = 0; table = t }
+pairs_of (Err e) = record { number = number e; table = no_links }
+
+-- what a sheet gives: 0, N, P and the link set of each box; or the number that it is refused with, and zeros
+pub record Parsed : Type 0 where
+  pub number : ℕ
+  pub boxes : ℕ
+  pub links : ℕ
+  pub table : List ℕ
 
 -- a refusal's number, and zeros
 abbrev pub no_sheet : ℕ → Parsed
@@ -37,6 +55,11 @@ no_sheet n = record { number = n; boxes = 0; links = 0; table = no_links }
 unfoldable pub parsed_answer : Outcome Sheet → Parsed
 parsed_answer (refused n p) = no_sheet n
 parsed_answer (accepted r) = record { number = 0; boxes = r.boxes; links = r.links; table = r.table }
+
+-- the same of what `parse` gives
+abbrev pub parsed_of : Result Found Refusal → Parsed
+parsed_of (Ok r) = record { number = 0; boxes = r.boxes; links = r.links; table = r.table }
+parsed_of (Err e) = no_sheet (number e)
 
 -- What `parse` gives: the sheet as the rules read it. The bounds follow from that, and are what its callers compute with.
 pub record ParsedFrom (sheet : List ℕ) (r : Parsed) : Type 0 where

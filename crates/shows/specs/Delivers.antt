@@ -30,10 +30,9 @@ use Rattle.order.specs.Rounds.{links_lt}
 use Rattle.wires.specs.Wires.{sixteen, Waiting, waiting, Formed, Others, queued, under_way, arrived, oldest, skipped, taken as taken_off, taken_word, Arrived, Skipped, Taken}
 use Rattle.wires.specs.Words.{word_of, is_list, origin_of, set_of}
 use Rattle.wires.proofs.Laws.{queue_length, way_length, arrive_law, skip_law, take_law, sixteen_proper}
-use Rattle.boxes.specs.declared.Record.{Record}
-use Rattle.boxes.specs.declared.Arrival.{Arrival}
-use Rattle.boxes.specs.declared.Departure.{Departure}
-use Rattle.boxes.specs.Record.{blank}
+use Rattle.boxes.specs.Arrival.{Arrival}
+use Rattle.boxes.specs.Departure.{Departure}
+use Rattle.boxes.specs.Record.{Record, blank}
 use Rattle.boxes.specs.Step.{step_def, woken, taken, saved, save_all, is_stopped}
 use Rattle.boxes.specs.Laws.{saved_none, saved_stopped, taken_hop, taken_neighbors, woken_yes, woken_no}
 use Rattle.mail.specs.Gather.{Got, got_nothing, wire_of, gather_to, clear_to}

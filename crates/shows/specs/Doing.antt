@@ -11,10 +11,9 @@ use Rattle.sets.specs.Mem.{mem_empty, and_both, in_lt}
 use Rattle.sets.specs.Loops.{by_bool, for_each_empty}
 use Rattle.order.specs.Send.{left}
 use Rattle.wires.specs.Wires.{sixteen, under_way}
-use Rattle.boxes.specs.declared.Record.{Record}
-use Rattle.boxes.specs.declared.Arrival.{Arrival}
-use Rattle.boxes.specs.declared.Departure.{Departure}
-use Rattle.boxes.specs.Record.{box_of, record_of, blank}
+use Rattle.boxes.specs.Arrival.{Arrival}
+use Rattle.boxes.specs.Departure.{Departure}
+use Rattle.boxes.specs.Record.{Record, box_of, record_of, blank}
 use Rattle.boxes.specs.Step.{step_def, woken, taken, saved, is_stopped, origins_of, sets_of}
 use Rattle.boxes.specs.Laws.{woken_yes, woken_no, round_record, still_record, started_stops, start_sends_lem, box_sends}
 use Rattle.mail.specs.Gather.{wire_of, clear_to}

@@ -11,7 +11,7 @@ use Rattle.wires.specs.Wires.{sixteen, Waiting, waiting, Formed, Others}
 use Rattle.wires.specs.Words.{word_of}
 use Rattle.tables.specs.Tables.{with_entry, with_heard, with_busy}
 use Rattle.tables.proofs.Laws.{put_waits, put_formed}
-use Rattle.boxes.specs.declared.Departure.{Departure}
+use Rattle.boxes.specs.Departure.{Departure}
 use Rattle.mail.specs.Gather.{wire_of}
 use Rattle.turn.specs.Turn.{kept_tables, ends}
 

@@ -15,8 +15,7 @@ use Rattle.wires.specs.Wires.{sixteen, Waiting, has_room, pushed, join_way, Push
 use Rattle.wires.specs.Words.{word_of}
 use Rattle.wires.proofs.Laws.{push_law, sixteen_proper}
 use Rattle.mail.specs.Post.{Posted, post_word, post_lists, post_if}
-use Rattle.mail.specs.declared.Letter.{Letter}
-use Rattle.mail.specs.Letter.{post_link}
+use Rattle.mail.specs.Letter.{Letter, post_link}
 use Rattle.mail.specs.Gather.{wire_of}
 use Rattle.shows.specs.Held.{words_of, held_of, Held, wire_lt, held_one, length_words, holds_both}
 

@@ -26,12 +26,11 @@ use Rattle.wires.specs.Words.{is_list}
 use Rattle.wires.proofs.Laws.{way_length}
 use Rattle.tables.specs.Tables.{laid}
 use Rattle.tables.proofs.Laws.{entries_length, laid_waits, laid_formed, laid_links, laid_heard, laid_busy}
-use Rattle.boxes.specs.declared.Arrival.{Arrival}
-use Rattle.boxes.specs.declared.Departure.{Departure}
+use Rattle.boxes.specs.Arrival.{Arrival}
+use Rattle.boxes.specs.Departure.{Departure}
 use Rattle.boxes.specs.Record.{box_of, record_of, blank, box_record}
 use Rattle.mail.specs.Gather.{wire_of}
-use Rattle.turn.specs.declared.Pair.{Pair}
-use Rattle.turn.specs.Turn.{Turn, turn_of, Took, searched, next_pair, quiet, one_list, round_of, took_round, took_first, delivered, begun, took_pair, took_def, heard_at, next_turn, put_def}
+use Rattle.turn.specs.Turn.{Turn, Pair, turn_of, Took, searched, next_pair, quiet, one_list, round_of, took_round, took_first, delivered, begun, took_pair, took_def, heard_at, next_turn, put_def}
 use Rattle.turns.proofs.Laws.{turns_over, turns_on, turn_pairs}
 use Rattle.turns.specs.Turns.{Going, turn_def, turns_def, first_turn, asleep_row, own_def}
 use Rattle.shows.specs.Held.{length_words}

@@ -11,8 +11,7 @@ use Rattle.sets.specs.Loops.{by_bool, sum_same}
 use Rattle.sets.specs.Tables.{upd_same, upd_other}
 use Rattle.order.specs.Sums.{sum_plus}
 use Rattle.order.specs.Send.{left, settled, settle_is}
-use Rattle.mail.specs.declared.Letter.{Letter}
-use Rattle.mail.specs.Letter.{post_link}
+use Rattle.mail.specs.Letter.{Letter, post_link}
 use Rattle.mail.specs.Post.{Posted}
 use Rattle.mail.specs.Gather.{wire_of}
 use Rattle.shows.specs.Posts.{Sends, letter_list, to_links, all_shows}

@@ -14,9 +14,8 @@ use Rattle.sets.specs.Loops.{by_bool}
 use Rattle.sets.specs.Tables.{upd_same, upd_other}
 use Rattle.order.specs.Send.{left, settled}
 use Rattle.wires.specs.Wires.{sixteen, Waiting, under_way}
-use Rattle.boxes.specs.declared.Record.{Record}
-use Rattle.boxes.specs.declared.Departure.{Departure}
-use Rattle.boxes.specs.Record.{box_of, record_of, blank, box_record}
+use Rattle.boxes.specs.Departure.{Departure}
+use Rattle.boxes.specs.Record.{Record, box_of, record_of, blank, box_record}
 use Rattle.mail.specs.Letter.{post_link}
 use Rattle.mail.specs.Post.{Posted}
 use Rattle.mail.specs.Gather.{wire_of, clear_to}

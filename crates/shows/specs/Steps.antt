@@ -6,9 +6,9 @@ use Rattle.std.proofs.Math.Bool.{true, false, ◌&&◌, ◌||◌, or-false}
 use Rattle.rules.specs.Sets.{mem, word}
 use Rattle.rules.specs.Box.{Msg, notspt, start_sends, round_sends, stops}
 use Rattle.sets.specs.Loops.{by_bool}
-use Rattle.boxes.specs.declared.Record.{Record}
-use Rattle.boxes.specs.declared.Arrival.{Arrival}
-use Rattle.boxes.specs.declared.Departure.{Departure}
+use Rattle.boxes.specs.Record.{Record}
+use Rattle.boxes.specs.Arrival.{Arrival}
+use Rattle.boxes.specs.Departure.{Departure}
 use Rattle.boxes.specs.Step.{step_def, woken, taken, settled, rounded, is_stopped}
 use Rattle.boxes.specs.Laws.{step_round, step_still, round_sends_lem, round_stops, still_stops, start_sends_lem}
 use Rattle.turn.specs.Turn.{letter, ends}

@@ -14,6 +14,9 @@ use Rattle.sets.specs.Loops.{pick}
 use Rattle.rules.specs.Sets.{word}
 use Rattle.wires.specs.Wires.{sixteen, place, Formed, queued, under_way, waiting, none, has_room, pushed, arrived, skipped, taken, cleared}
 use Rattle.wires.proofs.Laws.{waiting_agree, none_law, sixteen_proper}
+use Rattle.tables.specs.declared.Table.{Table}
+use Rattle.tables.specs.declared.Table.TheVariants.{Links, Heard, Busy}
+use Rattle.tables.specs.Table.{begins}
 use Rattle.tables.specs.Tables.{entry_of, with_entry, entries, links_of, heard_of, busy_of, with_heard, with_busy, lay_to, laid}
 
 -- ---- tables
@@ -52,6 +55,12 @@ entry_other s k j x ne = ap (λ (y : ℕ). y % 65536) (get_or-set_other s k j x 
 pub put_length : (s : List ℕ) (k x : ℕ) → length (with_entry s k x) ≡ length s
 unfolding with_entry
 put_length s k x = length-set s k x
+
+-- every table stands before the wires
+pub table_low : (t : Table) (b : ℕ) → b < 16 → begins t + b < 48
+table_low Links b l = omega arith
+table_low Heard b l = omega arith
+table_low Busy b l = omega arith
 
 -- an entry of the table is stored
 table_put : (s : List ℕ) (k n b x : ℕ) → b < n → k + n ≤ length s → x < 65536 → entries (with_entry s (k + b) x) k n ≡ set (entries s k n) b x

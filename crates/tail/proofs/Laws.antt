@@ -1,40 +1,27 @@
--- The last bytes of a list, and what a copy byte by byte holds. Assumes nothing.
-use Prim.Native.Nat.{ℕ, ◌+◌, ◌-◌, ◌≤◌, ◌<◌}
-use native.Mathlib.Omega.{arith}
-use native.Mathlib.Decide.{dec_lt}
-use native.Mathlib.Numerals.{add-one}
-use mathlib.Core.Path.{◌≡◌, sym, ap, ◌∙◌}
-use mathlib.Core.List.{List, ◌++◌}
-use lib.ListN.{length, take, drop, get_or, set, length-append, length-drop, get_or-append}
-use lib.Seq.{length-take-le, take_all, take-suc, take-suc-set, drop-append_seam, drop-append-add, get_or-append-add, get_or-take, get_or-drop}
+-- The last bytes of a list, and what stands in a buffer whose bytes were moved to its start and followed by a part. Assumes nothing.
+use Rattle.std.proofs.Common.{ℕ, ◌+◌, ◌-◌, ◌≤◌, ◌≡◌, sym, ap, ◌∙◌, arith, List, ◌++◌, length, take, drop, length-append, length-drop, length-take-le, take_all}
+use Rattle.std.proofs.Math.Decide.{dec_lt}
+use Rattle.std.proofs.Math.Seq.{paste, drop-append_seam, drop-append-add}
+use Rattle.std.proofs.lemmas.List.{drop-append-le, drop-take}
+use Rattle.std.proofs.lemmas.List.Edits.{take-paste}
+use Rattle.std.proofs.lemmas.Slice.{take-put_mid}
+use borrow.Rule.Slice.PartMut.{put_mid}
 use Rattle.tail.specs.Last.{last_of}
 
--- ---- byte i of what a tail of n bytes holds, followed by a part
+-- ---- the bytes from s to n moved to the start, and a part after them: what the first n were, followed by the part, past its first s
 
-module _ (n : ℕ) (bytes part : List ℕ) (i : ℕ) (fits : n ≤ length bytes) where
-  pub in_held : i < n → get_or bytes i 0 ≡ get_or (take n bytes ++ part) i 0
-  in_held l =
-      sym (get_or-append (take n bytes) part 0 i (omega (arith, length-take-le n bytes fits)) ∙ get_or-take n bytes i 0 l)
-
-  pub in_part : n ≤ i → get_or part (i - n) 0 ≡ get_or (take n bytes ++ part) i 0
-  in_part l =
-      let e : length (take n bytes) + (i - n) ≡ i = omega (arith, length-take-le n bytes fits) in
-      sym (get_or-append-add (take n bytes) part (i - n) 0) ∙ ap (λ (k : ℕ). get_or (take n bytes ++ part) k 0) e
-
-  pub joined_length : length (take n bytes ++ part) ≡ n + length part
-  joined_length = omega (arith, length-append (take n bytes) part, length-take-le n bytes fits)
-
--- ---- a copy of what a list has past its first s bytes, byte by byte
-
-module _ (s : ℕ) (l out : List ℕ) where
-  pub copied_more : (i v : ℕ) → i < length out → s + i < length l → v ≡ get_or l (s + i) 0 → take i out ≡ take i (drop s l)
-      → take (i + 1) (set out i v) ≡ take (i + 1) (drop s l)
-  copied_more i v h g e c =
-      let r : i < length (drop s l) = omega (arith, length-drop s l) in
-      rw (add-one, take-suc-set out i v h, take-suc (drop s l) i 0 r, get_or-drop s l i 0, c, e)
-
-  pub all_copied : (n : ℕ) → length l ≤ s + n → take n out ≡ take n (drop s l) → take n out ≡ drop s l
-  all_copied n h c = c ∙ take_all n (drop s l) (omega (arith, length-drop s l))
+pub joined : (xs ys part : List ℕ) (n s k : ℕ) → n ≤ length xs → s ≤ n → ys ≡ paste xs 0 (drop s xs) (n - s) → n - s ≤ length ys
+    → take (n - s + length part) (put_mid (n - s) k ys part) ≡ drop s (take n xs ++ part)
+joined xs ys part n s k fits within moved room =
+    let parts : n ≡ s + (n - s) = omega arith in
+    let none : n - s ≡ 0 + (n - s) = omega arith in
+    take-put_mid (n - s) k ys part (n - s + length part) (omega arith) room
+    ∙ ap (λ (l : List ℕ). l ++ part) (
+    (λ i. take (none i) (moved i))
+    ∙ take-paste xs 0 (drop s xs) (n - s) (omega arith) (omega (arith, length-drop s xs))
+    ∙ sym (ap (λ m. drop s (take m xs)) parts ∙ drop-take s (n - s) xs)
+    )
+    ∙ sym (drop-append-le s (take n xs) part (omega (arith, length-take-le n xs fits)))
 
 -- ---- of a list that is added, its own last bytes are enough
 

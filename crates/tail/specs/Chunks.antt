@@ -3,8 +3,7 @@ use Rattle.std.specs.Prelude.{ℕ, ◌+◌, ◌-◌, ◌≤◌, ◌≡◌, List,
 use Rattle.std.proofs.Common.{arith, sym, ap, ◌∙◌, append_assoc, append-nil, length-append, length-drop, drop-drop}
 use Rattle.std.proofs.Math.Decide.{dec_lt}
 use Rattle.std.proofs.lemmas.List.{drop-append-le}
-use Rattle.tail.specs.declared.Tail.{Tail}
-use Rattle.tail.specs.Last.{last_of, held, Keeps}
+use Rattle.tail.specs.Last.{Tail, last_of, held, Keeps}
 
 -- the bytes of all chunks, in the order in which they are read
 abbrev pub all_of : List (List ℕ) → List ℕ

@@ -2,71 +2,51 @@
 // never more."
 #![tactic(auto)]
 
-ghost use Rattle.std.specs.Prelude.{◌≡◌, ◌+◌, ◌-◌, ◌<◌, ◌≤◌, [], ◌++◌, length, get_or};
-ghost use Rattle.tail.specs.Last.{held, Keeps};
+ghost use Rattle.std.specs.Prelude.{◌≡◌, ◌≤◌, []};
 
-// The first `len` of the bytes are what is held.
+// How many bytes a tail has room for.
+const ROOM: usize = 244;
+
+// The first `len` of the bytes are what is held. An array with a length beside it, since the memory is fixed: what joins a tail can't fail.
 #[derive(Clone, Copy)]
 pub struct Tail {
-    pub bytes: [u8; 244],
+    pub bytes: [u8; ROOM],
     pub len: usize,
+    pub ghost within: { len ≤ 244 },
 }
 
-// Of nothing.
-pub fn empty() -> Tail
-    ensures { (held result ≡ []) × (result.len ≡ 0) }
-{
-    Tail {
-        bytes: [0; 244],
-        len: 0,
-    }
-}
+impl Tail {
+    ghost use Rattle.tail.specs.Last.{held, Keeps, shown};
 
-// How far n goes beyond 244.
-fn beyond(n: usize) -> usize
-    ensures { result ≡ n - 244 }
-{
-    if n < 244 {
-        return 0;
+    // Of nothing.
+    pub fn empty() -> Tail
+        ensures { (held (shown result) ≡ []) × (result.len ≡ 0) }
+    {
+        Tail {
+            bytes: [0; ROOM],
+            len: 0,
+        }
     }
-    n - 244
-}
 
-// Byte i of what is held followed by `part`.
-fn byte_of(t: Tail, part: &[u8], i: usize) -> u8
-    requires { (t.len ≤ 244) × (i < t.len + length part.now) }
-    ensures { result ≡ get_or (held t ++ part.now) i 0 }
-{
-    let len = t.len;
-    if i < len {
-        return t.bytes[i];
+    // The bytes that are held.
+    pub fn held(&self) -> &[u8]
+        ensures { result.now ≡ held (shown self.now) }
+    {
+        &self.bytes[..self.len]
     }
-    part[i - len]
-}
 
-// What is held, followed by a part of at most 244 bytes.
-fn joined(t: Tail, part: &[u8]) -> Tail
-    requires { (t.len ≤ 244) × (length part.now ≤ 244) }
-    ensures { Keeps t part.now result }
-{
-    let total = t.len + part.len();
-    let skip = beyond(total);
-    let len = total - skip;
-    let mut bytes = [0u8; 244];
-    for i in 0..len {
-        bytes[i] = byte_of(t, part, skip + i);
+    // What is held, followed by what was read next. Of a long chunk no more than its own last 244 bytes count; of what was held stays what there is
+    // room for before them.
+    pub fn keep_last(self, chunk: &[u8]) -> Tail
+        ensures { Keeps (shown self) chunk.now (shown result) }
+    {
+        let part = &chunk[chunk.len().saturating_sub(ROOM)..];
+        let skip = (self.len + part.len()).saturating_sub(ROOM);
+        let kept = self.len - skip;
+        let len = kept + part.len();
+        let mut bytes = self.bytes;
+        bytes.copy_within(skip..self.len, 0);
+        bytes[kept..len].copy_from_slice(part);
+        Tail { bytes, len }
     }
-    Tail {
-        bytes: bytes,
-        len: len,
-    }
-}
-
-// What is held, followed by what was read next. Of a long chunk no more than its own last 244 bytes count.
-pub fn keep_last(t: Tail, chunk: &[u8]) -> Tail
-    requires { t.len ≤ 244 }
-    ensures { Keeps t chunk.now result }
-{
-    let from = beyond(chunk.len());
-    joined(t, &chunk[from..])
 }

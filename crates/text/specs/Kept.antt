@@ -4,8 +4,7 @@ use Rattle.std.proofs.Common.{arith, ap, ◌∙◌}
 use Rattle.rules.specs.Sheet.{read_sheet}
 use Rattle.rules.specs.Calls.{boxes_most, drain_call}
 use Rattle.sheet_laws.proofs.RoundTrip.{last_enough}
-use Rattle.tail.specs.declared.Tail.{Tail}
-use Rattle.tail.specs.Last.{last_of, held}
+use Rattle.tail.specs.Last.{Tail, last_of, held}
 use Rattle.tail.specs.Chunks.{all_of, KeepsEach, chunks_kept}
 use Rattle.text.specs.Text.{printed}
 

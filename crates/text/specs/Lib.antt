@@ -1,3 +1,4 @@
 pub mod Text
 pub mod Sample
 pub mod Kept
+pub mod Drained

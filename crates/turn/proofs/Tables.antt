@@ -12,14 +12,11 @@ use Rattle.sets.specs.Loops.{for_each_keeps, pick}
 use Rattle.wires.specs.Wires.{sixteen, queued, under_way, arrived, oldest, has_room, cleared}
 use Rattle.wires.specs.Words.{is_list, word_of}
 use Rattle.tables.proofs.Laws.{Same, same_refl, same_trans, same_links, same_heard, same_busy, pushed_same, arrived_same, skipped_same, taken_same, cleared_same}
-use Rattle.boxes.specs.declared.Departure.{Departure}
-use Rattle.mail.specs.declared.Letter.{Letter}
+use Rattle.boxes.specs.Departure.{Departure}
 use Rattle.mail.specs.Post.{Posted, post_word, post_lists, post_if}
-use Rattle.mail.specs.Letter.{post_link}
+use Rattle.mail.specs.Letter.{Letter, post_link}
 use Rattle.mail.specs.Gather.{Got, got_nothing, wire_of, list_at, take_list, take_lists, take_head, hear, gather_link, gather_to, clear_to}
-use Rattle.turn.specs.declared.Carried.{Carried}
-use Rattle.turn.specs.declared.Pair.{Pair}
-use Rattle.turn.specs.Turn.{Turn, turn_of, next_pair, took_round, took_first, delivered, begun, took_pair, took_def, Took, heard_at, letter, post_to}
+use Rattle.turn.specs.Turn.{Turn, Carried, Pair, turn_of, next_pair, took_round, took_first, delivered, begun, took_pair, took_def, Took, heard_at, letter, post_to}
 
 -- ---- what is carried, by stores whose tables are the same
 

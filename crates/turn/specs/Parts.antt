@@ -6,10 +6,9 @@ use Rattle.rules.specs.Sets.{mem, word}
 use Rattle.wires.specs.Wires.{sixteen, queued, under_way, arrived, oldest, skipped, taken}
 use Rattle.wires.specs.Words.{is_list, origin_of, set_of}
 use Rattle.tables.specs.Tables.{links_of, heard_of, busy_of}
-use Rattle.boxes.specs.declared.Arrival.{Arrival}
-use Rattle.boxes.specs.declared.Departure.{Departure}
+use Rattle.boxes.specs.Arrival.{Arrival}
+use Rattle.boxes.specs.Departure.{Departure}
 use Rattle.mail.specs.Gather.{Got, got_nothing, wire_of, gather_to}
-use Rattle.turn.specs.declared.Receiver.{Receiver}
 use Rattle.turn.specs.Turn.{Turn, Took, more_busy, ends, kept_tables}
 
 -- the store, and what code has taken from it
@@ -17,6 +16,14 @@ abbrev pub took : List ℕ → Arrival → Took
 took s h = record { store = s; arrival = h }
 
 -- ---- what a pair brings, as `quiet` to `delivered` have it
+
+-- the receiver's number and link set, the links whose queue holds a message, whether it sleeps, whether it has stopped
+pub record Receiver : Type 0 where
+  pub own : ℕ
+  pub links : ℕ
+  pub heard : ℕ
+  pub sleeps : Bool
+  pub stopped : Bool
 
 abbrev pub receiver_from : ℕ → ℕ → ℕ → ℕ → ℕ → Receiver
 receiver_from b links heard awake stopped = record { own = b; links = links; heard = heard; sleeps = not (mem b awake) && not (mem b stopped); stopped = mem b stopped }

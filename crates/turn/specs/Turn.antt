@@ -5,15 +5,12 @@ use Rattle.std.specs.Int.Bits.{bit_or}
 use Rattle.rules.specs.Sets.{mem, without, word, least, any, for_each}
 use Rattle.wires.specs.Wires.{sixteen, queued, under_way, arrived, oldest, skipped, taken}
 use Rattle.wires.specs.Words.{is_list, origin_of, set_of}
-use Rattle.boxes.specs.declared.Arrival.{Arrival}
-use Rattle.boxes.specs.declared.Departure.{Departure}
-use Rattle.mail.specs.declared.Letter.{Letter}
+use Rattle.boxes.specs.Arrival.{Arrival}
+use Rattle.boxes.specs.Departure.{Departure}
 use Rattle.mail.specs.Post.{Posted}
-use Rattle.mail.specs.Letter.{post_link}
+use Rattle.mail.specs.Letter.{Letter, post_link}
 use Rattle.mail.specs.Gather.{Got, got_nothing, wire_of, gather_to, clear_to}
 use Rattle.tables.specs.Tables.{links_of, heard_of, busy_of, with_heard, with_busy}
-use Rattle.turn.specs.declared.Carried.{Carried}
-use Rattle.turn.specs.declared.Pair.{Pair}
 
 -- ---- what a run carries from turn to turn: numbers, and by box its link set, the links whose queue holds a message, and to which boxes it has messages under way
 
@@ -29,6 +26,17 @@ pub record Turn : Type 0 where
   pub links : List ℕ
   pub heard : List ℕ
   pub busy : List ℕ
+
+-- the numbers, which code carries by value, with how many pairs the list has (Code)
+pub record Carried : Type 0 where
+  pub left : ℕ
+  pub at : ℕ
+  pub pairs : ℕ
+  pub sent : ℕ
+  pub moved : ℕ
+  pub awake : ℕ
+  pub stopped : ℕ
+  pub full : Bool
 
 -- the tables stand in the store
 abbrev pub turn_of : Carried → List ℕ → Turn
@@ -47,6 +55,12 @@ turn_of c s = record {
 }
 
 -- ---- the next pair: of the list, while it lasts; then the first wire that holds a message
+
+-- a start where both ends are one box; some: there is one
+pub record Pair : Type 0 where
+  pub some : Bool
+  pub «from» : ℕ
+  pub to : ℕ
 
 unfoldable pub searched : List ℕ → Pair
 searched busy =

@@ -14,27 +14,26 @@ use Rattle.rules.specs.Sets.{mem, without, word, least, any}
 use Rattle.sets.specs.Loops.{by_bool, least_hit, least_ok, any_out, pick}
 use Rattle.sets.specs.Tables.{set_if_lem}
 use Rattle.wires.specs.Wires.{sixteen, under_way}
-use Rattle.boxes.specs.declared.Record.{Record}
-use Rattle.boxes.specs.declared.Arrival.{Arrival}
-use Rattle.boxes.specs.declared.Departure.{Departure}
-use Rattle.boxes.specs.Record.{blank, box_of, record_of, record_box}
+use Rattle.boxes.specs.Arrival.{Arrival}
+use Rattle.boxes.specs.Departure.{Departure}
+use Rattle.boxes.specs.Record.{Record, blank, box_of, record_of, record_box}
 use Rattle.boxes.specs.Step.{step_def, settled, no_sets}
 use Rattle.boxes.specs.Laws.{step_still, woken_no, saved_none}
 use Rattle.mail.specs.Post.{Posted}
 use Rattle.mail.specs.Gather.{wire_of}
 use Rattle.turn.specs.declared.Carried.{Carried}
-use Rattle.turn.specs.declared.Pair.{Pair}
-use Rattle.pass.specs.declared.Glance.{Glance}
-use Rattle.turn.specs.Turn.{Turn, turn_of, less_of, kept_tables, searched, next_pair, took_pair, took_def, Took, less_busy, more_busy, ends, Put, next_turn, put_def}
+use Rattle.turn.specs.Turn.{Turn, Pair, less_of, kept_tables, searched, next_pair, took_pair, took_def, Took, less_busy, more_busy, ends, Put, next_turn, put_def}
 use Rattle.turn.specs.Parts.{took, receiver_of, quiet_to}
-use Rattle.pass.specs.Pass.{Glanced, glance_pair, kept, carried_on, glance_at, quiet_turn, quiet_store, pass_one, pass_to, pass_all}
+use Rattle.turn.specs.Code.{turn_with, counted}
+use Rattle.pass.specs.Code.{carried_with}
+use Rattle.pass.specs.Pass.{Glance, Glanced, glance_pair, kept, glance_at, quiet_turn, quiet_store, pass_one, pass_to, pass_all}
 use Rattle.tables.proofs.Laws.{Same}
 use Rattle.turn.proofs.Tables.{turn_same, took_same}
 use Rattle.sends.proofs.Laws.{nothing_goes}
 use Rattle.pass.proofs.Laws.{pair_took, pass_less, left_some}
 use Rattle.turns.specs.Turns.{Going, turn_def, turns_def}
 use Rattle.turns.specs.Parts.{going, going_with, on_def}
-use Rattle.turns.proofs.Laws.{turns_over, turns_on, turn_less, turn_pairs}
+use Rattle.turns.proofs.Laws.{turns_over, turns_on, turn_less}
 
 -- ---- the step, and what goes out
 
@@ -190,27 +189,17 @@ pass_left (suc n) list q =
     (λ e. rw e (pick (λ (z : Put). z.turn.left ≤ q.turn.left) (glance_at list q).glance.quiet
     (omega (arith, pass_less list q (left_some q e), pass_left n list (pass_one list q))) (omega arith)))
 
-pass_one_pairs : (list : List ℕ) (q : Put) → (pass_one list q).turn.pairs ≡ q.turn.pairs
-unfolding pass_one quiet_turn
-pass_one_pairs list q = refl
-
-pass_pairs : (n : ℕ) (list : List ℕ) (q : Put) → (pass_to n list q).turn.pairs ≡ q.turn.pairs
-unfolding pass_to
-pass_pairs zero list q = refl
-pass_pairs (suc n) list q =
-    pick (λ (z : Put). z.turn.pairs ≡ q.turn.pairs) (eqb q.turn.left 0) refl
-    (pick (λ (z : Put). z.turn.pairs ≡ q.turn.pairs) (glance_at list q).glance.quiet (pass_pairs n list (pass_one list q) ∙ pass_one_pairs list q) refl)
-
 -- ---- a turn and those that pass after it
 
-pub on_is : (ls : List ℕ) (rs rs' : List Record) (ss ss' ss'' : List ℕ) (c r : Carried) (h : Arrival) (o : Departure)
-    → h ≡ (took_def ls ss (turn_of c ss)).arrival → ss' ≡ (took_def ls ss (turn_of c ss)).store
+pub on_is : (ls : List ℕ) (pairs : ℕ) (rs rs' : List Record) (ss ss' ss'' : List ℕ) (c r : Carried) (h : Arrival) (o : Departure)
+    → h ≡ (took_def ls ss (turn_with c pairs ss)).arrival → ss' ≡ (took_def ls ss (turn_with c pairs ss)).store
     → rs' ≡ set rs h.own (step_def (get_or rs h.own blank) h).«record» → o ≡ (step_def (get_or rs h.own blank) h).out
-    → carried_on ss'' r ≡ pass_all ls (put_def ss' o (turn_of c ss'))
-    → going_with rs' ss'' r ≡ on_def ls (going_with rs ss c)
+    → carried_with ss'' r pairs ≡ pass_all ls (put_def ss' o (turn_with c pairs ss'))
+    → going_with rs' ss'' r pairs ≡ on_def ls (going_with rs ss c pairs)
 unfolding turn_def
-on_is ls rs rs' ss ss' ss'' c r h o eh e' er eo et =
-    let same : turn_of c ss' ≡ turn_of c ss = turn_same c ss ss' (subst (Same ss) (sym e') (took_same ls ss (turn_of c ss))) in
+on_is ls pairs rs rs' ss ss' ss'' c r h o eh e' er eo et =
+    let t : Turn = turn_with c pairs ss in
+    let same : turn_with c pairs ss' ≡ t = turn_same (counted c pairs) ss ss' (subst (Same ss) (sym e') (took_same ls ss t)) in
     ap (λ (q : Put). going rs' q.store q.turn) (et ∙ ap (λ (z : Turn). pass_all ls (put_def ss' o z)) same) ∙ rw (er, eo, e', eh)
 
 pub turns_go_on : (t : ℕ) (ls : List ℕ) (g h : Going) → 1 ≤ g.turn.left → g.turn.left ≤ suc t → h ≡ on_def ls g → turns_def (suc t) ls g ≡ turns_def t ls h
@@ -222,8 +211,3 @@ pub on_less : (t : ℕ) (ls : List ℕ) (g h : Going) → g.turn.left ≤ suc t 
 on_less t ls g h l e =
     let y : Going = turn_def ls g in
     omega (arith, ap (λ (z : Going). z.turn.left) e, pass_left y.turn.left ls (kept y.store y.turn), turn_less t ls g y l refl)
-
-pub on_pairs : (ls : List ℕ) (g h : Going) → h ≡ on_def ls g → h.turn.pairs ≡ g.turn.pairs
-on_pairs ls g h e =
-    let y : Going = turn_def ls g in
-    ap (λ (z : Going). z.turn.pairs) e ∙ pass_pairs y.turn.left ls (kept y.store y.turn) ∙ turn_pairs ls g y refl

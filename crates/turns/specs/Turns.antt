@@ -3,11 +3,9 @@
 use Rattle.std.specs.Prelude.{ℕ, zero, suc, ◌+◌, ◌/◌, false, cond, List, eqb, length, get_or, set, replicate}
 use Rattle.rules.specs.Box.{asleep}
 use Rattle.tables.specs.Tables.{laid}
-use Rattle.boxes.specs.declared.Record.{Record}
-use Rattle.boxes.specs.Record.{record_of, blank}
+use Rattle.boxes.specs.Record.{Record, record_of, blank}
 use Rattle.boxes.specs.Step.{step_def}
-use Rattle.turn.specs.declared.Carried.{Carried}
-use Rattle.turn.specs.Turn.{Turn, turn_of, took_def, put_def}
+use Rattle.turn.specs.Turn.{Turn, Carried, turn_of, took_def, put_def}
 
 -- ---- turns
 

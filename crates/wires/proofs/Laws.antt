@@ -190,7 +190,7 @@ module _ (z : Sizes) (ok : Proper z) where
         ∙ ap₂ holds (kept h (q + 1) ∙ rw (ring_more, first.0)) (kept (h + (q + 1)) (w - 1) ∙ rw next first.2)
 
     pub arrive_yes : under_way z s i ≢ 0
-        → Arrived z s i (set (set s (queued_at z i) (queued z s i + 1)) (way_at z i) (under_way z s i - 1)) (word s (slot z i (head z s i + queued z s i)))
+        → Arrived z s i (set (set s (queued_at z i) (queued z s i + 1)) (way_at z i) (under_way z s i - 1)) (oldest z s i)
     unfolding waiting arrived oldest
     arrive_yes ne =
         let e : eqb (under_way z s i) 0 ≡ false = ne_eqb _ _ ne in
@@ -198,8 +198,8 @@ module _ (z : Sizes) (ok : Proper z) where
         let some = ring_some z s i (head z s i + queued z s i) (under_way z s i) ne in
         record {
           words = rw e;
-          answer = rw e;
-          oldest_of = λ x l p. (ring_first z s i _ _ x l p).0;
+          answer = refl;
+          oldest_of = λ x l p. rw e (ring_first z s i _ _ x l p).0;
           delivered = λ f x l p. arrive_delivers (within s i f) x l p;
           none_under_way = λ p. absurd (ne (none_ring z s i _ _ p));
           others = o;
@@ -207,15 +207,15 @@ module _ (z : Sizes) (ok : Proper z) where
               kept_formed s _ i _ (simp length-set) o (arrive_delivers r _ _ some) (simp (length-append, ring_length) (omega arith)) f;
         }
 
-    pub arrive_no : under_way z s i ≡ 0 → Arrived z s i s 0
-    unfolding waiting arrived oldest
+    pub arrive_no : under_way z s i ≡ 0 → Arrived z s i s (oldest z s i)
+    unfolding waiting arrived
     arrive_no e =
         let t : eqb (under_way z s i) 0 ≡ true = eq-eqb _ _ e in
         let never : (x : ℕ) (l : List ℕ) → (waiting z s i).way ≡ x ∷ l → ⊥ =
         λ x l p. let r : 0 < under_way z s i = (ring_first z s i _ _ x l p).1 in omega arith in
         record {
           words = rw t;
-          answer = rw t;
+          answer = refl;
           oldest_of = λ x l p. absurd (never x l p);
           delivered = λ f x l p. absurd (never x l p);
           none_under_way = λ p. refl;
@@ -224,7 +224,7 @@ module _ (z : Sizes) (ok : Proper z) where
         }
 
     pub arrive_law : Arrived z s i (arrived z s i) (oldest z s i)
-    unfolding arrived oldest
+    unfolding arrived
     arrive_law = go (eqb (under_way z s i) 0) refl
       where
         go : (b : Bool) → eqb (under_way z s i) 0 ≡ b → Arrived z s i (arrived z s i) (oldest z s i)
@@ -348,16 +348,16 @@ module _ (z : Sizes) (ok : Proper z) where
         (kept (h' + (q - 1)) w ∙ ring_turn z s i (h' + (q - 1)) (h + q) w turn)
 
     pub take_yes : queued z s i ≢ 0
-        → Taken z s i (set (set s (head_at z i) ((head z s i + 1) % z.ring)) (queued_at z i) (queued z s i - 1)) (word s (place z i (head z s i)))
-    unfolding waiting taken taken_word front
+        → Taken z s i (set (set s (head_at z i) ((head z s i + 1) % z.ring)) (queued_at z i) (queued z s i - 1)) (taken_word z s i)
+    unfolding waiting taken taken_word
     take_yes ne =
         let e : eqb (queued z s i) 0 ≡ false = ne_eqb _ _ ne in
         let o = stored_twice s i z.ring ((head z s i + 1) % z.ring) (z.ring + 1) (queued z s i - 1) (omega arith) (omega arith) in
         let some = ring_some z s i (head z s i) (queued z s i) ne in
         record {
           words = rw e;
-          answer = rw e;
-          head_of = first_law.head_of;
+          answer = refl;
+          head_of = λ x l p. (rw e refl) ∙ first_law.head_of x l p;
           off = λ x l p. take_off x l p;
           none_queued = λ p. absurd (ne (none_ring z s i _ _ p));
           others = o;
@@ -365,15 +365,15 @@ module _ (z : Sizes) (ok : Proper z) where
               kept_formed s _ i _ (simp length-set) o (take_off _ _ some) (simp ring_length (omega arith)) f;
         }
 
-    pub take_no : queued z s i ≡ 0 → Taken z s i s 0
-    unfolding waiting taken taken_word
+    pub take_no : queued z s i ≡ 0 → Taken z s i s (taken_word z s i)
+    unfolding waiting taken
     take_no e =
         let t : eqb (queued z s i) 0 ≡ true = eq-eqb _ _ e in
         let never : (x : ℕ) (l : List ℕ) → (waiting z s i).queue ≡ x ∷ l → ⊥ =
         λ x l p. let r : 0 < queued z s i = (ring_first z s i _ _ x l p).1 in omega arith in
         record {
           words = rw t;
-          answer = rw t;
+          answer = refl;
           head_of = λ x l p. absurd (never x l p);
           off = λ x l p. absurd (never x l p);
           none_queued = λ p. refl;
@@ -382,7 +382,7 @@ module _ (z : Sizes) (ok : Proper z) where
         }
 
     pub take_law : Taken z s i (taken z s i) (taken_word z s i)
-    unfolding taken taken_word front
+    unfolding taken
     take_law = go (eqb (queued z s i) 0) refl
       where
         go : (b : Bool) → eqb (queued z s i) 0 ≡ b → Taken z s i (taken z s i) (taken_word z s i)

@@ -16,6 +16,11 @@ is_list x = leb 65536 x
 abbrev pub set_of : ℕ → ℕ
 set_of x = x % 65536
 
+-- the set of a message, of either kind
+abbrev pub set_in : Msg → ℕ
+set_in (notspt s) = s
+set_in (neighbors k s) = s
+
 -- the upper half is the origin and 1; what is read is a box, whatever the word is
 abbrev pub origin_of : ℕ → ℕ
 origin_of x = (x / 65536 + 15) % 16

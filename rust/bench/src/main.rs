@@ -138,9 +138,12 @@ macro_rules! moved_by {
     ($code:ident) => {
         |case, board| match &case.call {
             Call::Drain { starts } => {
-                $code::hub::drain(&case.sheet, *starts, derowlas::BUDGET, board).moved
+                $code::hub::drain(&case.sheet, *starts, derowlas::BUDGET, board)
+                    .map_or(0, |done| done.moved)
             }
-            Call::Run { list } => $code::hub::run(&case.sheet, list, board).moved,
+            Call::Run { list } => {
+                $code::hub::run(&case.sheet, list, board).map_or(0, |done| done.moved)
+            }
         }
     };
 }

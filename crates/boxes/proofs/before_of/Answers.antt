@@ -6,5 +6,5 @@ use Rattle.boxes.proofs.before_of.Goals as goal
 pub returns-then-hop-eq0 : goal.returns-then-hop-eq0
 returns-then-hop-eq0 c = before_zero _ _ c.if-hop-eq0.true
 
-pub returns : goal.returns
-returns c = c.entry.ensures ∙ before_suc _ _ c.if-hop-eq0.false
+pub returns-else-hop-eq0 : goal.returns-else-hop-eq0
+returns-else-hop-eq0 c = c.entry.ensures ∙ before_suc _ _ c.if-hop-eq0.false

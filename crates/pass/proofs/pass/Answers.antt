@@ -1,53 +1,31 @@
 -- `pass::pass` meets its contract: at each turn what is still to pass comes to what was to pass at first. Assumes nothing.
-use borrow.Author.Rules.{rules}
-use native.Mathlib.Omega.{arith}
-use Prim.Native.Nat.{ℕ, ◌<◌}
-use mathlib.Core.Path.{◌≡◌, refl, sym, ap, ◌∙◌}
-use mathlib.Core.List.{List}
-use lib.ListN.{length}
-use borrow.Author.Tests.{not-true, not-false}
-use Rattle.tables.specs.Tables.{with_busy}
-use Rattle.turn.specs.Turn.{turn_of}
-use Rattle.turn.proofs.Laws.{receiver_read}
-use Rattle.pass.proofs.Laws.{left_less, pass_over, pass_ends, pass_goes_on}
+use Rattle.std.proofs.Common.{ℕ, List, sym, ap, ◌∙◌, length, arith, rules}
+use Rattle.turn.specs.Code.{flat}
+use Rattle.turn.specs.Turn.{Put}
+use Rattle.pass.specs.Code.{carried_with}
+use Rattle.pass.specs.Pass.{pass_all}
+use Rattle.pass.proofs.Laws.{pass_less, pass_over, pass_stops, pass_next}
 use Rattle.pass.proofs.pass.Goals as goal
 
-pub loop-q-init : goal.loop-q-init
-loop-q-init c = (search rules, (search rules, refl))
-
-pub returns-then-not-k : goal.returns-then-not-k
-returns-then-not-k c =
-    let l = c.loop-q in
+pub loop-c-smaller : goal.loop-c-smaller
+loop-c-smaller c =
+    let l = c.loop-c in
     let list = c.args.list.now in
-    let p = c.next_pair-p in
-    let k = c.look_at-k in
-    let er = receiver_read (turn_of l.q l.store) _ _ _ _ c.links_of.ensures c.heard_of.ensures c.receiver_of-r.ensures.0 in
-    pass_ends list l.store _ l.q _ _ _ p.ensures.0 er k.ensures _ (not-true _ c.if-not-k.true) l.invariant.1.1
+    omega (arith, ap (λ (z : Put). z.turn.left) c.in-Some.ensures.1, pass_less (flat list) (carried_with l.store.words l.c (length list)) c.loop-c-test.true)
 
-pub loop-q-smaller : goal.loop-q-smaller
-loop-q-smaller c =
-    let q = c.loop-q.q in
-    omega (arith, c.left_after.ensures, left_less q.left q.at q.pairs c.look_at-k.result.moved c.loop-q-test.true)
-
-pub loop-q-preserved : goal.loop-q-preserved
-loop-q-preserved c =
-    let l = c.loop-q in
+pub loop-c-preserved : goal.loop-c-preserved
+loop-c-preserved c =
+    let l = c.loop-c in
     let list = c.args.list.now in
-    let p = c.next_pair-p in
-    let k = c.look_at-k in
-    let er = receiver_read (turn_of l.q l.store) _ _ _ _ c.links_of.ensures c.heard_of.ensures c.receiver_of-r.ensures.0 in
-    let less = c.less_busy-to in
-    let size : length c.look_at-k.new.store ≡ 9264 = search rules in
-    let lh : k.result.heard < 65536 = search rules in
-    let lt : less.result < 65536 = search rules in
-    let ev = c.set_busy.ensures.words ∙ ap (λ (z : List ℕ). with_busy z p.result.«from» less.result) c.set_heard.ensures.words in (
-      search rules,
-      (
-        l.invariant.1.0,
-        pass_goes_on list l.store _ l.q _ _ _ p.ensures.0 er k.ensures size p.ensures.1.0 p.ensures.1.1 lh less.result _ lt c.busy_of.ensures less.ensures
-            _ _ _ _ _ ev c.loop-q-test.true (not-false _ c.if-not-k.false) l.invariant.1.1 c.left_after.ensures c.at_after.ensures c.moved_after.ensures,
-      ),
-    )
+    let one = c.in-Some.ensures in
+    ap (pass_all (flat list)) one.1 ∙ sym (pass_next (flat list) (carried_with l.store.words l.c (length list)) c.loop-c-test.true one.0) ∙ l.invariant
+
+pub returns-in-None : goal.returns-in-None
+returns-in-None c =
+    let l = c.loop-c in
+    let list = c.args.list.now in
+    let none = c.in-None.ensures in
+    none.1 ∙ sym (pass_stops l.c.left (flat list) (carried_with l.store.words l.c (length list)) none.0) ∙ l.invariant
 
 pub returns : goal.returns
-returns c = sym (pass_over _ _ _ (omega arith)) ∙ c.loop-q.invariant.1.1
+returns c = sym (pass_over _ _ _ (omega arith)) ∙ c.loop-c.invariant

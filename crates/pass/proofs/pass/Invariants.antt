@@ -1,12 +1,15 @@
 -- `pass::pass` meets its contract: at each turn what is still to pass comes to what was to pass at first. Assumes nothing.
-use Prim.Native.Nat.{◌*◌, ◌≤◌}
-use mathlib.Core.Path.{◌≡◌}
-use lib.ListN.{length}
-use Rattle.pass.specs.Pass.{carried_on, pass_all}
+use Rattle.std.proofs.Common.{◌≡◌, length}
+use Rattle.turn.specs.Code.{flat}
+use Rattle.pass.specs.Code.{carried_with}
+use Rattle.pass.specs.Pass.{pass_all}
 use Rattle.pass.proofs.pass.Given as goal
 
-abbrev pub invariant-loop-q : goal.invariant-loop-q
-invariant-loop-q l = (length l.store ≡ 9264) × ((l.q.pairs * 2 ≤ length l.list) × (pass_all l.list (carried_on l.store l.q) ≡ pass_all l.list (carried_on l.initial.store l.initial.q)))
+abbrev pub invariant-loop-c : goal.invariant-loop-c
+invariant-loop-c l =
+    let list = flat l.list in
+    let n = length l.list in
+    pass_all list (carried_with l.store.words l.c n) ≡ pass_all list (carried_with l.initial.store.words l.initial.c n)
 
-abbrev pub decreases-loop-q : goal.decreases-loop-q
-decreases-loop-q l = l.q.left
+abbrev pub decreases-loop-c : goal.decreases-loop-c
+decreases-loop-c l = l.c.left

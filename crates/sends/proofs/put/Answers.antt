@@ -1,15 +1,18 @@
 -- `sends::put` meets its contract: each part of what is carried on is what the turn's definition has there. Assumes nothing.
-use Rattle.std.proofs.Common.{rules}
-use Rattle.turn.specs.Turn.{ends}
+use Rattle.std.proofs.Common.{◌≡◌, ◌&&◌, ◌||◌}
+use Rattle.boxes.specs.Departure.{shown_departure}
 use Rattle.sends.proofs.Laws.{put_store, put_turn}
 use Rattle.sends.proofs.put.Goals as goal
-
-pub keep_tables-requires : goal.keep_tables-requires
-unfolding ends
-keep_tables-requires c = (search rules, c.stopping-ended.ensures)
+use Rattle.sends.proofs.put.Goals.{then-o, else-o}
 
 pub returns : goal.returns
-returns c = (
-  put_turn c.args.store.now _ _ _ c.args.o c.args.c c.post_all-p.result c.links_of-links.result c.busy_of.result c.less_busy-to.result c.stopping-ended.result c.links_of-links.ensures c.busy_of.ensures c.less_busy-to.ensures c.stopping-ended.ensures c.clear_ended.ensures c.post_all-p.ensures c.keep_tables.ensures _ _ _ _ _ c.left_after.ensures c.at_after.ensures c.moved_after.ensures c.awake_after.ensures c.stopped_after.ensures,
-  put_store c.args.store.now _ _ _ c.args.o c.args.c c.post_all-p.result c.links_of-links.result c.busy_of.result c.less_busy-to.result c.stopping-ended.result c.links_of-links.ensures c.busy_of.ensures c.less_busy-to.ensures c.stopping-ended.ensures c.clear_ended.ensures c.post_all-p.ensures c.keep_tables.ensures,
-)
+returns c =
+    let x = c.args in
+    let o = shown_departure x.o in
+    let ended : c.if-o.ended ≡ o.stops && (o.wakes || o.round) = elim c.if-o.branch [
+      | then-o w ↦ rw (w.ended-is, w.if-o.true) w.sends-ended.ensures
+      | else-o w ↦ rw (w.ended-is, w.if-o.false)
+    ] in
+    let turn = put_turn x.store.now.words _ _ _ o x.c.now x.pairs c.post_all.new.c _ _ _ c.of-links.ensures (rw c.of.ensures at c.less_busy-to.ensures) ended c.clear_ended.ensures c.post_all.ensures c.keep_tables.ensures c.after.new.self c.mark.new.self c.after.ensures c.mark.ensures in
+    let store = put_store x.store.now.words _ _ _ o x.c.now x.pairs c.post_all.new.c _ _ _ c.of-links.ensures (rw c.of.ensures at c.less_busy-to.ensures) ended c.clear_ended.ensures c.post_all.ensures c.keep_tables.ensures in
+    (turn, store)

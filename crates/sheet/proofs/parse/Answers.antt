@@ -1,43 +1,30 @@
--- `parse` meets its contract, from what `trailer_number` and `read_pairs` ensure. Assumes nothing.
-use native.Mathlib.Omega.{arith}
-use mathlib.Core.Path.{refl}
-use Rattle.sheet.proofs.SheetLaws.{Trailer, refusing, short, refuses_trailer, refuses_pair, accepts}
+-- `parse` meets its contract, from what `check_trailer` and `read_pairs` ensure. Assumes nothing.
+use Rattle.std.proofs.Common.{◌≡◌, Err, rules, arith, refl}
+use Rattle.refusals.proofs.NumberLaws.{number_some}
+use Rattle.sheet.proofs.SheetLaws.{trailer_of, refusing, short, refuses_trailer, refuses_pair, accepts}
 use Rattle.sheet.proofs.parse.Goals as goal
 
-pub returns-then-end-lt4 : goal.returns-then-end-lt4
-returns-then-end-lt4 c = refusing _ _ 1 0 c.no_sheet.ensures (omega arith) (short _ c.if-end-lt4.true)
+pub returns-in_default : goal.returns-in_default
+returns-in_default c = refusing _ _ 1 0 refl (omega arith) (short _ c.in_default.ensures.cases)
 
-pub returns-then-number-ne0 : goal.returns-then-number-ne0
-returns-then-number-ne0 c =
-    let t : Trailer c.args.sheet.now c.byte_at-b.result c.byte_at-p.result c.byte_at-n.result c.byte_at-version.result = record {
-      long = c.if-end-lt4.false;
-      back = c.byte_at-b.ensures.0;
-      links = c.byte_at-p.ensures.0;
-      boxes = c.byte_at-n.ensures.0;
-      version = c.byte_at-version.ensures.0;
-    } in
-    refuses_trailer t c.trailer_number-number.ensures.0 _ c.no_sheet-then-number-ne0.ensures c.if-number-ne0.true
+pub returns-in_err-check_trailer : goal.returns-in_err-check_trailer
+returns-in_err-check_trailer c =
+    let e : c.from_residual.result ≡ Err c.in_err-check_trailer.field-0.0 = search rules in
+    let s = c.in-Some.ensures in
+    let t = trailer_of _ _ _ _ _ _ (s.variant.0 refl) s.cases.1 c.from-b.ensures c.from-links.ensures c.from-boxes.ensures refl in
+    rw e (refuses_trailer t c.in_err-check_trailer.ensures.0 _ refl (number_some c.in_err-check_trailer.field-0.0))
 
-pub returns-then-read-ne0 : goal.returns-then-read-ne0
-returns-then-read-ne0 c =
-    let t : Trailer c.args.sheet.now c.byte_at-b.result c.byte_at-p.result c.byte_at-n.result c.byte_at-version.result = record {
-      long = c.if-end-lt4.false;
-      back = c.byte_at-b.ensures.0;
-      links = c.byte_at-p.ensures.0;
-      boxes = c.byte_at-n.ensures.0;
-      version = c.byte_at-version.ensures.0;
-    } in
-    let q = c.read_pairs-read in
-    refuses_pair t c.trailer_number-number.ensures.0 c.if-number-ne0.false (c.trailer_number-number.ensures.1 c.if-number-ne0.false) _ refl q.result q.ensures _ c.no_sheet-then-read-ne0.ensures c.if-read-ne0.true
+pub returns-in_err-table : goal.returns-in_err-table
+returns-in_err-table c =
+    let e : c.from_residual-in_err-table.result ≡ Err c.in_err-table.field-0.0 = search rules in
+    let s = c.in-Some.ensures in
+    let t = trailer_of _ _ _ _ _ _ (s.variant.0 refl) s.cases.1 c.from-b.ensures c.from-links.ensures c.from-boxes.ensures refl in
+    let h = c.in_ok-check_trailer.ensures in
+    rw e (refuses_pair t h.0 refl h.1 _ _ s.cases.0 refl _ c.in_err-table.ensures _ refl (number_some c.in_err-table.field-0.0))
 
 pub returns : goal.returns
 returns c =
-    let t : Trailer c.args.sheet.now c.byte_at-b.result c.byte_at-p.result c.byte_at-n.result c.byte_at-version.result = record {
-      long = c.if-end-lt4.false;
-      back = c.byte_at-b.ensures.0;
-      links = c.byte_at-p.ensures.0;
-      boxes = c.byte_at-n.ensures.0;
-      version = c.byte_at-version.ensures.0;
-    } in
-    let q = c.read_pairs-read in
-    accepts t c.trailer_number-number.ensures.0 c.if-number-ne0.false (c.trailer_number-number.ensures.1 c.if-number-ne0.false) _ refl q.result q.ensures c.if-read-ne0.false
+    let s = c.in-Some.ensures in
+    let t = trailer_of _ _ _ _ _ _ (s.variant.0 refl) s.cases.1 c.from-b.ensures c.from-links.ensures c.from-boxes.ensures refl in
+    let h = c.in_ok-check_trailer.ensures in
+    accepts t h.0 refl h.1 _ _ s.cases.0 refl _ c.in_ok-table.ensures refl

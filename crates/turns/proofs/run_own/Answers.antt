@@ -1,9 +1,6 @@
--- `turns::run_own` meets its contract: the run from the first turn. Assumes nothing.
-use Rattle.turns.proofs.Laws.{first_within, own_is}
+-- `turns::run_own` meets its contract: the run of the list's pairs from the first turn. Assumes nothing.
+use Rattle.turns.proofs.Laws.{own_is}
 use Rattle.turns.proofs.run_own.Goals as goal
 
-pub run_from-requires : goal.run_from-requires
-run_from-requires c = first_within c.args.list.now _ _ c.first_turn.ensures
-
 pub returns : goal.returns
-returns c = own_is c.args.list.now _ _ _ _ c.first_turn.ensures c.run_from.ensures
+returns c = own_is c.args.list.now c.args.links _ _ _ _ c.as_chunks.ensures.front c.as_chunks.ensures.front_len c.first.ensures c.run_from.ensures

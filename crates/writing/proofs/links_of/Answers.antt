@@ -1,30 +1,32 @@
--- `links_of` meets its contract. The loop's invariant: k counts the links of the rows passed. Assumes nothing.
-use native.Mathlib.Omega.{arith}
-use native.Mathlib.Numerals.{add-one}
-use mathlib.Core.Path.{◌≡◌, refl}
-use borrow.Author.Rules.{rules}
-use Rattle.rules.specs.Sets.{sum}
+-- `links_of` meets its contract: what the rows have, added, in the words of the rules. Assumes nothing.
+use Rattle.std.proofs.Common.{ℕ, List, ◌∙◌, rules, refl, arith}
+use borrow.Author.Tests.{tests}
+use Rattle.std.specs.List.{range_with_len}
+use Rattle.std.proofs.lemmas.Iterator.{YieldsList-from_range, YieldsList-from_map}
+use Rattle.std.proofs.lemmas.Iterator.Consumers.{sum_by_from_yields_List, fits_by_from_yields_list}
+use Rattle.rules.specs.Sets.{count}
 use Rattle.rules.specs.Sheet.{link_count}
-use Rattle.writing.proofs.WriteLaws.{row_most, links_most}
+use Rattle.writing.specs.Writing.{is_link}
+use Rattle.writing.proofs.WriteLaws.{links_most}
+use Rattle.writing.proofs.CountLaws.{range_sum}
 use Rattle.writing.proofs.links_of.Goals as goal
 
-pub loop-i-init : goal.loop-i-init
-unfolding sum
-loop-i-init c = (search rules, search rules, refl)
+-- the links of row i
+abbrev row : List ℕ → ℕ → ℕ
+row t i = count 16 (is_link t i)
 
-pub overflow_add-k : goal.overflow_add-k
-overflow_add-k c = omega (arith, c.row_links-k.ensures, row_most c.args.t.now c.loop-i.i 16)
-
-pub loop-i-preserved : goal.loop-i-preserved
-unfolding sum
-loop-i-preserved c =
-    let a = c.loop-i in
-    let l = row_most c.args.t.now a.i 16 in
-    (omega arith, omega (arith, c.row_links-k.ensures), rw (add-one, c.row_links-k.ensures, a.invariant.2))
+pub sum-requires-clause-fits : goal.sum-requires-clause-fits
+unfolding link_count
+sum-requires-clause-fits c =
+    fits_by_from_yields_list (row c.args.t.now) (range_with_len 0 16) c.map.result _
+    (YieldsList-from_map _ (row c.args.t.now) (YieldsList-from_range 0 16 16 c.map.ensures.source refl) c.map.ensures.closure (λ x r q k. search (rules, tests)))
+    (omega (arith, range_sum 16 (row c.args.t.now), links_most c.args.t.now))
 
 pub returns : goal.returns
 unfolding link_count
 returns c =
-    let e : c.loop-i.i ≡ 16 = omega arith in
-    let s = rw e at c.loop-i.invariant.2 in
-    (s, rw s (links_most c.args.t.now))
+    let e =
+    sum_by_from_yields_List (row c.args.t.now) (range_with_len 0 16) c.map.result _ c.sum.ensures.ran
+    (YieldsList-from_map _ (row c.args.t.now) (YieldsList-from_range 0 16 16 c.map.ensures.source refl) c.map.ensures.closure (λ x r q k. search (rules, tests)))
+    ∙ range_sum 16 (row c.args.t.now) in
+    (e, rw e (links_most c.args.t.now))

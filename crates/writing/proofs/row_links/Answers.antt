@@ -1,22 +1,16 @@
--- `row_links` meets its contract. The loop's invariant: k counts the pairs passed. Assumes nothing.
-use native.Mathlib.Omega.{arith}
-use native.Mathlib.Numerals.{add-one}
-use mathlib.Core.Path.{refl}
-use borrow.Author.Rules.{rules}
-use Rattle.rules.specs.Sets.{count}
-use Rattle.sets.specs.Loops.{count_last}
+-- `row_links` meets its contract: how many pass, in the words of the rules. Assumes nothing.
+use Rattle.std.proofs.Common.{◌∙◌, rules, refl}
+use borrow.Author.Tests.{tests}
+use Rattle.std.specs.List.{range_with_len}
+use Rattle.std.proofs.lemmas.Iterator.{YieldsList-from_range}
+use Rattle.std.proofs.lemmas.Iterator.Consumers.{YieldsList-from_filter, count_from_yields_List}
+use Rattle.std.proofs.lemmas.List.Sums.{length-filter}
+use Rattle.writing.specs.Writing.{is_link}
+use Rattle.writing.proofs.CountLaws.{range_count}
 use Rattle.writing.proofs.row_links.Goals as goal
-use Rattle.writing.proofs.row_links.Goals.{then-is_link, else-is_link}
 
-pub loop-j-init : goal.loop-j-init
-unfolding count
-loop-j-init c = (search rules, search rules, refl)
-
-pub loop-j-preserved : goal.loop-j-preserved
-loop-j-preserved c =
-    let a = c.loop-j in
-    let f = c.is_link in
-    elim c.if-is_link.branch [
-      | then-is_link w ↦ (omega arith, omega arith, rw (add-one, count_last, ← a.invariant.2, ← f.ensures, w.if-is_link.true) w.k-is)
-      | else-is_link w ↦ (omega arith, omega arith, rw (add-one, count_last, ← a.invariant.2, ← f.ensures, w.if-is_link.false) (omega arith))
-    ]
+pub returns : goal.returns
+returns c =
+    count_from_yields_List c.filter.result _ c.count.ensures.ran (YieldsList-from_filter _ (is_link c.args.t.now c.args.i) (YieldsList-from_range 0 16 16 c.filter.ensures.source refl) c.filter.ensures.closure (λ x b q k. search (rules, tests)))
+    ∙ length-filter (is_link c.args.t.now c.args.i) (range_with_len 0 16)
+    ∙ range_count 16 (is_link c.args.t.now c.args.i)

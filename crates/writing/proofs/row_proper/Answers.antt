@@ -1,17 +1,15 @@
--- `row_proper` meets its contract. The loop's invariant: the boxes passed are proper. Assumes nothing.
-use native.Mathlib.Numerals.{add-one}
-use mathlib.Core.Path.{refl, sym, ◌∙◌}
-use borrow.Author.Rules.{rules}
-use Rattle.rules.specs.Sets.{all}
-use Rattle.writing.proofs.LoopLaws.{all_next, all_stop}
+-- `row_proper` meets its contract: what the chain found, in the words of the rules. Assumes nothing.
+use Rattle.std.proofs.Common.{◌≡◌, ℕ, Bool, true, false, rules, refl}
+use borrow.Author.Tests.{tests}
+use Rattle.std.proofs.lemmas.Iterator.{cases_from_all, YieldsList-from_range}
+use Rattle.writing.specs.Writing.{link_proper}
+use Rattle.writing.proofs.LoopLaws.{all_cases}
 use Rattle.writing.proofs.row_proper.Goals as goal
 
-pub loop-j-init : goal.loop-j-init
-unfolding all
-loop-j-init c = (search rules, refl)
+abbrev passes : goal.After-all → ℕ → Bool
+passes c = link_proper c.args.n c.args.t.now c.args.i
 
-pub returns-then-not-link_proper : goal.returns-then-not-link_proper
-returns-then-not-link_proper c = sym (all_stop 16 _ c.loop-j.j c.loop-j-test.true (sym c.link_proper.ensures ∙ c.if-not-link_proper.true))
-
-pub loop-j-preserved : goal.loop-j-preserved
-loop-j-preserved c = (search rules, rw (add-one, all_next, c.loop-j.invariant.1) (sym c.link_proper.ensures ∙ c.if-not-link_proper.false))
+pub returns : goal.returns
+returns c =
+    all_cases 16 (passes c) _
+    (cases_from_all _ _ _ (λ x. passes c x ≡ true) (λ x. passes c x ≡ false) c.all.ensures.ran (YieldsList-from_range 0 16 16 refl refl) (λ x q k. search (rules, tests)) (λ x q k. search (rules, tests)))

@@ -1,17 +1,16 @@
--- `table_proper` meets its contract. The loop's invariant: the rows passed are proper. Assumes nothing.
-use native.Mathlib.Numerals.{add-one}
-use mathlib.Core.Path.{refl, sym, ◌∙◌}
-use borrow.Author.Rules.{rules}
+-- `table_proper` meets its contract: what the chain found, in the words of the rules. Assumes nothing.
+use Rattle.std.proofs.Common.{◌≡◌, ℕ, Bool, true, false, rules, refl}
+use borrow.Author.Tests.{tests}
+use Rattle.std.proofs.lemmas.Iterator.{cases_from_all, YieldsList-from_range}
 use Rattle.rules.specs.Sets.{all}
-use Rattle.writing.proofs.LoopLaws.{all_next, all_stop}
+use Rattle.writing.specs.Writing.{link_proper}
+use Rattle.writing.proofs.LoopLaws.{all_cases}
 use Rattle.writing.proofs.table_proper.Goals as goal
 
-pub loop-i-init : goal.loop-i-init
-unfolding all
-loop-i-init c = (search rules, refl)
+abbrev passes : goal.After-all → ℕ → Bool
+passes c = λ i. all 16 (link_proper c.args.n c.args.t.now i)
 
-pub returns-then-not-row_proper : goal.returns-then-not-row_proper
-returns-then-not-row_proper c = sym (all_stop 16 _ c.loop-i.i c.loop-i-test.true (sym c.row_proper.ensures ∙ c.if-not-row_proper.true))
-
-pub loop-i-preserved : goal.loop-i-preserved
-loop-i-preserved c = (search rules, rw (add-one, all_next, c.loop-i.invariant.1) (sym c.row_proper.ensures ∙ c.if-not-row_proper.false))
+pub returns : goal.returns
+returns c =
+    all_cases 16 (passes c) _
+    (cases_from_all _ _ _ (λ x. passes c x ≡ true) (λ x. passes c x ≡ false) c.all.ensures.ran (YieldsList-from_range 0 16 16 refl refl) (λ x q k. search (rules, tests)) (λ x q k. search (rules, tests)))
