@@ -136,38 +136,59 @@ impl Store {
         self.words[wire.base() + at] % 32
     }
 
-    // The message joins the wire's end. Where no room is left on the wire and its queue: false, and nothing changes (refusal 13).
+    // Four of the methods come twice: on a word, whatever it is, and, as the turns use them, on a message.
+
+    // The word joins the wire's end. Where no room is left on the wire and its queue: false, and nothing changes (refusal 13).
     // A plain bool, as in `Pushed`: nothing stands beside it.
-    pub fn push(&mut self, wire: Wire, message: Message) -> bool
-        ensures { Pushed sixteen self.old.words wire.index (word_of (said message)) self.new.words result }
+    pub fn push_word(&mut self, wire: Wire, word: u32) -> bool
+        ensures { Pushed sixteen self.old.words wire.index word self.new.words result }
     {
         let head = self.count(wire, HEAD);
         let queued = self.count(wire, QUEUED);
         let way = self.count(wire, WAY);
         if queued + way < ROOM {
             let at = wire.base() + ((head + queued + way) % 32) as usize;
-            self.words[at] = u32::from(message);
+            self.words[at] = word;
             self.words[wire.base() + WAY] = way + 1;
             return true;
         }
         false
     }
 
-    // The oldest message under way moves into the receiver's queue, and is the answer. Where none is under way: None, and nothing changes.
-    pub fn arrive(&mut self, wire: Wire) -> Option<Message>
-        ensures words { Arrived sixteen self.old.words wire.index self.new.words (oldest sixteen self.old.words wire.index) }
-        ensures message { Tells result (under_way sixteen self.old.words wire.index) (oldest sixteen self.old.words wire.index) }
+    // The message joins the wire's end, as its word does.
+    pub fn push(&mut self, wire: Wire, message: Message) -> bool
+        ensures { Pushed sixteen self.old.words wire.index (word_of (said message)) self.new.words result }
+    {
+        self.push_word(wire, u32::from(message))
+    }
+
+    // The oldest word under way moves into the receiver's queue, and is the answer. Where none is under way: 0, and nothing changes.
+    pub fn arrive_word(&mut self, wire: Wire) -> u32
+        ensures { Arrived sixteen self.old.words wire.index self.new.words result }
     {
         let head = self.count(wire, HEAD);
         let queued = self.count(wire, QUEUED);
         let way = self.count(wire, WAY);
         if way == 0 {
-            return None;
+            return 0;
         }
         let at = wire.base() + ((head + queued) % 32) as usize;
         let word = self.words[at];
         self.words[wire.base() + QUEUED] = queued + 1;
         self.words[wire.base() + WAY] = way - 1;
+        word
+    }
+
+    // The same, and the answer is the message in that word. Where none is under way: None.
+    pub fn arrive(&mut self, wire: Wire) -> Option<Message>
+        ensures words { Arrived sixteen self.old.words wire.index self.new.words (oldest sixteen self.old.words wire.index) }
+        ensures message { Tells result (under_way sixteen self.old.words wire.index) (oldest sixteen self.old.words wire.index) }
+    {
+        let way = self.under_way(wire);
+        let word = self.arrive_word(wire);
+        if way == 0 {
+            return None;
+        }
         Some(Message::from(word))
     }
 
@@ -184,28 +205,47 @@ impl Store {
         }
     }
 
-    // The message at the head of the queue. Of an empty queue it is what stands in the ring: the oldest under way, where there is one.
+    // The word at the head of the queue. Of an empty queue it is what stands in the ring: the oldest under way, where there is one.
+    pub fn first_word(&self, wire: Wire) -> u32
+        ensures { First sixteen self.now.words wire.index result }
+    {
+        let head = self.count(wire, HEAD);
+        self.words[wire.base() + head as usize]
+    }
+
+    // The message in that word.
     pub fn first(&self, wire: Wire) -> Message
         ensures word { First sixteen self.now.words wire.index (front sixteen self.now.words wire.index) }
         ensures message { Reads result (front sixteen self.now.words wire.index) }
     {
-        let head = self.count(wire, HEAD);
-        Message::from(self.words[wire.base() + head as usize])
+        Message::from(self.first_word(wire))
     }
 
-    // Takes the head off the queue, and answers it. Where the queue is empty: None, and nothing changes.
-    pub fn take(&mut self, wire: Wire) -> Option<Message>
-        ensures words { Taken sixteen self.old.words wire.index self.new.words (taken_word sixteen self.old.words wire.index) }
-        ensures message { Tells result (queued sixteen self.old.words wire.index) (taken_word sixteen self.old.words wire.index) }
+    // Takes the head off the queue, and answers its word. Where the queue is empty: 0, and nothing changes.
+    pub fn take_word(&mut self, wire: Wire) -> u32
+        ensures { Taken sixteen self.old.words wire.index self.new.words result }
     {
         let head = self.count(wire, HEAD);
         let queued = self.count(wire, QUEUED);
         if queued == 0 {
-            return None;
+            return 0;
         }
         let word = self.words[wire.base() + head as usize];
         self.words[wire.base() + HEAD] = (head + 1) % 32;
         self.words[wire.base() + QUEUED] = queued - 1;
+        word
+    }
+
+    // The same, and the answer is the message in that word. Where the queue is empty: None.
+    pub fn take(&mut self, wire: Wire) -> Option<Message>
+        ensures words { Taken sixteen self.old.words wire.index self.new.words (taken_word sixteen self.old.words wire.index) }
+        ensures message { Tells result (queued sixteen self.old.words wire.index) (taken_word sixteen self.old.words wire.index) }
+    {
+        let queued = self.queued(wire);
+        let word = self.take_word(wire);
+        if queued == 0 {
+            return None;
+        }
         Some(Message::from(word))
     }
 
