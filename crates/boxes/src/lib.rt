@@ -141,12 +141,20 @@ fn without_each(s: u16, t: &[u16; 16]) -> [u16; 16]
     out
 }
 
-// The listed entries of a table become those of lists.
+// The listed entries of a table become those of lists. A choice over all sixteen and not a loop over `Members`, which ends in a branch that the processor
+// does not foresee (docs/SPEED.md).
 pub fn save_all(t: &mut [u16; 16], listed: u16, lists: &[u16; 16])
     ensures { t.new ≡ save_all t.old listed lists.now }
 {
-    for k in Members::of(listed) {
-        t[k] = lists[k];
+    if listed == 0 {
+        return;
+    }
+    for k in 0..16 {
+        t[k] = if sets::is_in(listed, k) {
+            lists[k]
+        } else {
+            t[k]
+        };
     }
 }
 
@@ -252,7 +260,8 @@ fn has_stopped(b: &Record) -> bool
 }
 
 // All that one delivery, or one start, makes of a box: it starts where it slept, does a round where every link has a NOTSPT at its head, and saves
-// the lists unless it has stopped. One function, so that a record is copied once.
+// the lists unless it has stopped. One function, so that a record is not copied from part to part. A round alone works on a copy, and the lists on
+// tables of their own: a struct with a table in which a box's entry is looked up lies in memory and is copied whole, and turns with no round would pay.
 pub fn step(r: Record, a: Arrival) -> Stepped
     ensures { shown_step result ≡ step_def (shown r) (shown_arrival a) }
 {
@@ -261,17 +270,22 @@ pub fn step(r: Record, a: Arrival) -> Stepped
         q = started(a.own, a.links);
     }
     let mut round = None;
-    if let Some(heads) = &a.heads {
-        take_sets(&mut q, a.links, heads);
-        let origins = origins_of(&q);
-        let sets = sets_of(&q);
+    if let Some(heads) = a.heads {
+        let mut t = q;
+        take_sets(&mut t, a.links, &heads);
+        let origins = origins_of(&t);
+        let sets = sets_of(&t);
         round = Some(Sent { origins, sets });
-        next_hop(&mut q);
+        next_hop(&mut t);
+        q = t;
     }
     let known = q.neighbors;
     let stops = has_stopped(&q);
     let listed = if stops { 0 } else { a.listed };
-    save_all(&mut q.neighbors, listed, &a.lists);
+    let lists = a.lists;
+    let mut saved = known;
+    save_all(&mut saved, listed, &lists);
+    q.neighbors = saved;
     Stepped {
         record: q,
         out: Departure {

@@ -21,14 +21,14 @@ use wires::{Store, Wire};
 // ---- what goes out
 
 // What goes to box j.
-fn post_one(store: &mut Store, o: Departure, j: usize, c: &mut Counts)
+fn post_one(store: &mut Store, o: &Departure, j: usize, c: &mut Counts)
     requires { j < 16 }
-    ensures { posted store.new.words c.new ≡ post_link (wire_of (o.own % 16) j) (letter (shown_departure o) j) o.neighbors (posted store.old.words c.old) }
+    ensures { posted store.new.words c.new ≡ post_link (wire_of (o.now.own % 16) j) (letter (shown_departure o.now) j) o.now.neighbors (posted store.old.words c.old) }
 {
     let b = o.own % 16;
     let letter = Letter {
         own: o.wakes.then_some(sets::only(b)),
-        round: o.round.map(|sent| Round {
+        round: o.round.as_ref().map(|sent| Round {
             origins: sent.origins[j],
             set: sent.sets[j],
         }),
@@ -41,8 +41,10 @@ fn post_all(store: &mut Store, o: Departure, links: u16, c: &mut Counts)
     ensures { posted store.new.words c.new ≡ post_to (shown_departure o) links 16 (posted store.old.words c.old) }
 {
     if o.sends() {
+        // copied here and not before: what is lent lies in memory, and where nothing goes out it need not
+        let out = o;
         for j in Members::of(links) {
-            post_one(store, o, j, c);
+            post_one(store, &out, j, c);
         }
     }
 }

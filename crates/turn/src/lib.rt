@@ -1,4 +1,5 @@
-// The first part of a turn, before the box's own step: the next pair, and what it brings. Document 01, "Lists and the drain".
+// The first part of a turn, before the box's own step: the next pair, and what it brings; and the state that a run carries. Document 01, "Lists and the
+// drain".
 #![tactic(auto)]
 
 ghost use Rattle.std.specs.Prelude.{◌≡◌, ℕ, ◌<◌, length};
@@ -169,9 +170,12 @@ fn one_list(r: Receiver, a: usize, origin: usize, set: u16) -> Arrival
     ensures told { (x : ℕ) → origin ≡ origin_of x → set ≡ set_of x → shown_arrival result ≡ one_list_to (words_of r) a x }
     ensures own { result.own ≡ r.own }
 {
+    // a table of its own, as in `boxes::step`
+    let mut lists = [0; 16];
+    lists[origin] = set;
     let mut h = quiet(r, a, true, r.sleeps(), r.heard);
     h.listed = sets::only(origin);
-    h.lists[origin] = set;
+    h.lists = lists;
     h
 }
 

@@ -6,4 +6,4 @@ use Rattle.turn.specs.Turn.{post_to}
 use Rattle.sends.proofs.post_all.Given as goal
 
 abbrev pub invariant-loop-j : goal.invariant-loop-j
-invariant-loop-j l = post_to (shown_departure l.o) l.j-iterator.rest 16 (posted l.store.words l.c) ≡ post_to (shown_departure l.o) l.links 16 (posted l.initial.store.words l.initial.c)
+invariant-loop-j l = post_to (shown_departure l.out) l.j-iterator.rest 16 (posted l.store.words l.c) ≡ post_to (shown_departure l.out) l.links 16 (posted l.initial.store.words l.initial.c)
