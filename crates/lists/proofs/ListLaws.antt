@@ -34,9 +34,16 @@ module _ (n : ℕ) (t left rest : List ℕ) (a b : ℕ) (e : left ≡ a ∷ b �
 
 -- ---- the whole list
 
-pub no_list : (n : ℕ) (t l : List ℕ) → (length l % 2 ≡ 1) ⊎ ((length l % 2 ≢ 1) × (60000 < length l)) → 9 ≡ list_number n t l
+pub odd_list : (n : ℕ) (t l : List ℕ) → length l % 2 ≡ 1 → 9 ≡ list_number n t l
 unfolding list_number
-no_list n t l h = ⊎_elim (λ e. rw (eq-eqb (length l % 2) 1 e) refl) (λ e. rw (ne_eqb (length l % 2) 1 e.0, lt-ltb 60000 (length l) e.1) refl) h
+odd_list n t l e = rw (eq-eqb (length l % 2) 1 e) refl
+
+pub long_list : (n : ℕ) (t l : List ℕ) → length l % 2 ≢ 1 → 60000 < length l → 9 ≡ list_number n t l
+unfolding list_number
+long_list n t l e h = rw (ne_eqb (length l % 2) 1 e, lt-ltb 60000 (length l) h) refl
+
+pub no_list : (n : ℕ) (t l : List ℕ) → (length l % 2 ≡ 1) ⊎ ((length l % 2 ≢ 1) × (60000 < length l)) → 9 ≡ list_number n t l
+no_list n t l h = ⊎_elim (λ e. odd_list n t l e) (λ e. long_list n t l e.0 e.1) h
 
 pub fair_list : (n : ℕ) (t l : List ℕ) → length l % 2 ≢ 1 → length l ≤ 60000 → list_number n t l ≡ pairs_number n t l
 unfolding list_number

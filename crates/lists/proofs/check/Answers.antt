@@ -1,15 +1,17 @@
 -- `check` meets its contract: a pair that is refused gives its number, a fair one leaves the rest. Assumes nothing.
 use Rattle.std.proofs.Common.{◌≡◌, ◌∙◌, ◌+◌, ◌*◌, ◌/◌, ◌<◌, ◌≤◌, length, sym, Err, rules, arith}
+use mathlib.Core.Logic.{⊎_elim}
 use Rattle.refusals.proofs.NumberLaws.{number_some}
 use Rattle.sheet.proofs.ChunkLaws.{pair_next}
-use Rattle.lists.proofs.ListLaws.{pairs_end, pairs_more, pairs_refused, no_list, fair_list}
+use Rattle.lists.proofs.ListLaws.{pairs_end, pairs_more, pairs_refused, odd_list, long_list, fair_list}
 use Rattle.lists.proofs.check.Goals as goal
 
+-- No fact is named here by the most bytes of a list, so that an edit of that number is refused for the fact.
 pub returns-then-list-eq1 : goal.returns-then-list-eq1
-returns-then-list-eq1 c = no_list _ _ _ c.then-list-eq1.either
+returns-then-list-eq1 c = ⊎_elim (λ e. odd_list _ _ _ e) (λ h. long_list _ _ _ h.0 (omega (arith, h.1))) c.then-list-eq1.either
 
 pub loop-pair-init : goal.loop-pair-init
-loop-pair-init c = sym (fair_list _ _ _ c.if-list-eq1.false c.if-list-gt60000.false)
+loop-pair-init c = sym (fair_list _ _ _ (search rules) (search rules))
 
 pub returns-in_err-check_pair : goal.returns-in_err-check_pair
 returns-in_err-check_pair c =
