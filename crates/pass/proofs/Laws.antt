@@ -189,7 +189,7 @@ module _ (list s s' : List ℕ) (q : CarriedCode) (pairs : ℕ) (p : Pair) (r : 
   abbrev t : Turn
   t = turn_with q pairs s
 
-  looked_at : glanced s' k ≡ glance_at list (carried_with s q pairs)
+  pub looked_at : glanced s' k ≡ glance_at list (carried_with s q pairs)
   unfolding glance_at next_pair
   looked_at = eg ∙ ap (λ (z : Receiver). glance_pair p z s) er ∙ ap (λ (z : Pair). glance_pair z (receiver_of t z.to) s) ep
 

@@ -76,7 +76,7 @@ module _ (board : List ℕ) (i j : ℕ) where
   route_self e = rw (eq-eqb i j e)
 
   module _ (other : i ≡ j → ⊥) where
-    route_far : 16 ≤ first_with board (nodes_at i) j → route board i j ≡ []
+    pub route_far : 16 ≤ first_with board (nodes_at i) j → route board i j ≡ []
     unfolding route
     route_far l = rw (ne_eqb i j other, le-ltb (first_with board (nodes_at i) j) 16 l)
 

@@ -19,7 +19,7 @@ use Rattle.turn.specs.Code.{flat}
 
 -- ---- the search
 
-abbrev nobody : Pair
+abbrev pub nobody : Pair
 nobody = record { some = false; «from» = 0; to = 0 }
 
 -- the search's answer, once its sender is found
