@@ -2,7 +2,7 @@
 use Prim.Native.Nat.{ℕ, zero, suc, ◌+◌, ◌*◌, ◌%◌, ◌≤◌, ◌<◌}
 use mathlib.Core.Path.{◌≡◌, refl, ap, ◌∙◌}
 use mathlib.Core.List.{List, [], ◌∷◌, ◌++◌, append-nil}
-use mathlib.Core.Logic.{◌≢◌, ◌⊎◌, ⊎_elim}
+use mathlib.Core.Logic.{◌≢◌}
 use native.Mathlib.Omega.{arith}
 use lib.ListN.{length, drop, length-drop, length-append}
 use borrow.Author.Tests.{le-ltb, lt-ltb, eq-eqb, ne_eqb}
@@ -41,9 +41,6 @@ odd_list n t l e = rw (eq-eqb (length l % 2) 1 e) refl
 pub long_list : (n : ℕ) (t l : List ℕ) → length l % 2 ≢ 1 → 60000 < length l → 9 ≡ list_number n t l
 unfolding list_number
 long_list n t l e h = rw (ne_eqb (length l % 2) 1 e, lt-ltb 60000 (length l) h) refl
-
-pub no_list : (n : ℕ) (t l : List ℕ) → (length l % 2 ≡ 1) ⊎ ((length l % 2 ≢ 1) × (60000 < length l)) → 9 ≡ list_number n t l
-no_list n t l h = ⊎_elim (λ e. odd_list n t l e) (λ e. long_list n t l e.0 e.1) h
 
 pub fair_list : (n : ℕ) (t l : List ℕ) → length l % 2 ≢ 1 → length l ≤ 60000 → list_number n t l ≡ pairs_number n t l
 unfolding list_number
